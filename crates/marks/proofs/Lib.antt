@@ -1,0 +1,6 @@
+pub mod Members
+pub mod Parts
+pub mod Sizes
+pub mod Algebra
+pub mod Enumerated
+pub mod Masks

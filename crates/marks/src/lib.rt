@@ -1,0 +1,3 @@
+pub mod numbers;
+pub mod refusal;
+pub mod sets;

@@ -4,3 +4,4 @@ pub mod Sizes
 pub mod Algebra
 pub mod Enumerated
 pub mod Masks
+pub mod Places

@@ -1,0 +1,4 @@
+pub mod Trimmed
+pub mod Bytes
+pub mod Packing
+pub mod Passing

@@ -5,3 +5,4 @@ pub mod Algebra
 pub mod Enumerated
 pub mod Masks
 pub mod Places
+pub mod Due

@@ -4,9 +4,9 @@ pub mod refusal;
 pub mod sets;
 
 pub use numbers::Charge;
-pub use numbers::Mark;
 pub use numbers::MOST_CHARGES;
 pub use numbers::MOST_MARKS;
+pub use numbers::Mark;
 pub use numbers::Support;
 pub use numbers::Width;
 pub use refusal::Reason;

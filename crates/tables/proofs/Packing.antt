@@ -44,8 +44,8 @@ module _ (bytes : List ℕ) (n : ℕ) where
   rows-within e k =
       elim (cases-lt k (length (packed-rows bytes))) [
         | inl h ↦ below-from-part n (getD (packed-rows bytes) k 0)
-          (part-fact (getD (packed-rows bytes) k 0) (all-below n)
-          (not-false (part-of (getD (packed-rows bytes) k 0) (all-below n)) (none-passes (strays (all-below n)) 0 (packed-rows bytes) e k h)))
+            (part-fact (getD (packed-rows bytes) k 0) (all-below n)
+            (not-false (part-of (getD (packed-rows bytes) k 0) (all-below n)) (none-passes (strays (all-below n)) 0 (packed-rows bytes) e k h)))
         | inr h ↦ omega (arith, getD-past (packed-rows bytes) k 0 h, pow-pos n)
       ]
 

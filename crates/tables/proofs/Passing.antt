@@ -49,7 +49,7 @@ module _ (m : Meaning) (s : ℕ) where
       where
         by : (b : Bool) → folded bitAnd (all-below (m .width)) (kept-by (held-by s) (take k (m .rows)) ++ cond b (getD (m .rows) k 0 ∷ []) [])
             ≡ cond b (bitAnd (folded bitAnd (all-below (m .width)) (kept-by (held-by s) (take k (m .rows)))) (getD (m .rows) k 0))
-              (folded bitAnd (all-below (m .width)) (kept-by (held-by s) (take k (m .rows))))
+            (folded bitAnd (all-below (m .width)) (kept-by (held-by s) (take k (m .rows))))
         by true = folded-push bitAnd (all-below (m .width)) (kept-by (held-by s) (take k (m .rows))) (getD (m .rows) k 0)
         by false = ap (folded bitAnd (all-below (m .width))) (append-nil (kept-by (held-by s) (take k (m .rows))))
 
@@ -76,14 +76,18 @@ pub passed-none : (m : Meaning) (s count : ℕ) (next : Option Charge) (closure 
     → Cases next (count ≡ 0) (λ c. (c .number ≡ 1) × (1 ≤ count)) → closure ≡ all-below (m .width) → Passed m s count next 0 closure
 passed-none m s count None closure e n f =
     record {
-      all = e; among = tt; few = omega arith;
+      all = e;
+      among = tt;
+      few = omega arith;
       support-is = sym (ap (λ k. support-of (ending-after k m) s) n ∙ support-none m s);
       closure-is = f ∙ sym (ap (λ k. closure-of (ending-after k m) s) n ∙ closure-none m s);
     }
 passed-none m s count (Some charge) closure e n f =
     let z : charge .number - 1 ≡ 0 = omega (arith, n .0) in
     record {
-      all = e; among = omega (arith, n .0, n .1); few = omega arith;
+      all = e;
+      among = omega (arith, n .0, n .1);
+      few = omega arith;
       support-is = sym (ap (λ k. support-of (ending-after k m) s) z ∙ support-none m s);
       closure-is = f ∙ sym (ap (λ k. closure-of (ending-after k m) s) z ∙ closure-none m s);
     }
@@ -116,11 +120,11 @@ module _ (m : Meaning) (proper : Proper m) (s count : ℕ) (charge : Charge) (ne
         among = among-next next step;
         few = rw b (omega (arith, e, before .few, one (held-by s r)));
         support-is =
-          e ∙ ap (λ a. a + cond (held-by s r) 1 0) (before .support-is) ∙ sym (support-more m s (charge .number - 1) within)
-          ∙ ap (λ n. support-of (ending-after n m) s) (sym b);
+            e ∙ ap (λ a. a + cond (held-by s r) 1 0) (before .support-is) ∙ sym (support-more m s (charge .number - 1) within)
+            ∙ ap (λ n. support-of (ending-after n m) s) (sym b);
         closure-is =
-          f ∙ ap (λ a. cond (held-by s r) (bitAnd a r) a) (before .closure-is) ∙ sym (closure-more m s (charge .number - 1) within)
-          ∙ ap (λ n. closure-of (ending-after n m) s) (sym b);
+            f ∙ ap (λ a. cond (held-by s r) (bitAnd a r) a) (before .closure-is) ∙ sym (closure-more m s (charge .number - 1) within)
+            ∙ ap (λ n. closure-of (ending-after n m) s) (sym b);
       }
     where
       one : (b : Bool) → cond b 1 0 ≤ 1

@@ -34,7 +34,7 @@ strays all row = not (part-of row all)
 unfoldable pub packed-refusal : List ℕ → ℕ → Option Refusal
 packed-refusal bytes n =
     first-due
-    ( due-if (not (eqb (length bytes % row-bytes) 0)) (unplaced Ragged)
+    (due-if (not (eqb (length bytes % row-bytes) 0)) (unplaced Ragged)
     ∷ due-if (ltb most-charges (length bytes / row-bytes)) (unplaced TooMany)
     ∷ mapped (placed-at Stray) (first-place (strays (all-below n)) (packed-rows bytes))
     ∷ [])

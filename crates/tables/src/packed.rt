@@ -9,9 +9,9 @@ ghost use Rattle.tables.specs.Packed.{row-bytes, packed-rows, strays, packed-r
 use crate::table::Rows;
 use crate::table::Table;
 use marks::Charge;
-use marks::MarkSet;
 use marks::MOST_CHARGES;
 use marks::MOST_MARKS;
+use marks::MarkSet;
 use marks::Reason;
 use marks::Refusal;
 use marks::Width;

@@ -29,5 +29,5 @@ returns c =
     let none = ap (λ all. first-place (strays all) (packed-rows bytes)) (sym (c .up-to .ensures .value)) ∙ sym (c .in-rest .ensures tt) in (
       accepted bytes n (c .if-bytes-ne0 .left) (c .if-bytes .left) none,
       ap (λ w. trimmed w (packed-rows bytes)) (c .get .ensures .value)
-      ∙ trimmed-same n (packed-rows bytes) (packed-proper bytes n (c .args .width .range) (c .if-bytes .left) none),
+          ∙ trimmed-same n (packed-rows bytes) (packed-proper bytes n (c .args .width .range) (c .if-bytes .left) none),
     )

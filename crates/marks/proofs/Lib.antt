@@ -4,5 +4,6 @@ pub mod Sizes
 pub mod Algebra
 pub mod Enumerated
 pub mod Masks
+pub mod Membership
 pub mod Places
 pub mod Due

@@ -105,8 +105,8 @@ pub trailing-below : (k x : ℕ) → 0 < x → x < 2 ^ k → trailingZeros k x <
 trailing-below k x p h = has-below k x (trailingZeros k x) h (trailing-lowest k x p h .held)
 
 -- a set has one lowest member
-pub lowest-one : (x s t : ℕ) → Lowest x s → Lowest x t → s ≡ t
-lowest-one x s t p q = grind (arith, p .held, q .held, p .none-below t, q .none-below s)
+pub one-lowest : (x s t : ℕ) → Lowest x s → Lowest x t → s ≡ t
+one-lowest x s t p q = grind (arith, p .held, q .held, p .none-below t, q .none-below s)
 
 -- `x & (x - 1)` leaves the lowest member out
 pub clear-lowest : (x t : ℕ) → Lowest x t → bitAnd x (x - 1) + 2 ^ t ≡ x
@@ -180,3 +180,7 @@ leading-highest k x p h =
     let t = leading-top k x p h in
     let e : k - 1 - leadingZeros k x ≡ t .0 = omega (arith, t .1) in
     rw e (highest x (t .0) (t .2) (t .3))
+
+-- a set has one highest member
+pub one-highest : (x s t : ℕ) → Highest x s → Highest x t → s ≡ t
+one-highest x s t p q = grind (arith, p .held, q .held, p .none-above t, q .none-above s)

@@ -3,12 +3,12 @@ pub mod numbers;
 pub mod refusal;
 pub mod sets;
 
-pub use numbers::Charge;
 pub use numbers::MOST_CHARGES;
 pub use numbers::MOST_MARKS;
-pub use numbers::Mark;
-pub use numbers::Support;
-pub use numbers::Width;
+pub use numbers::charge::Charge;
+pub use numbers::mark::Mark;
+pub use numbers::support::Support;
+pub use numbers::width::Width;
 pub use refusal::Reason;
 pub use refusal::Refusal;
 pub use sets::MarkSet;

@@ -91,7 +91,7 @@ impl Refusal {
     pub fn number(self) -> u64
         ensures { λ r. ⌜ r ≡ number-of (self .reason) ⌝ }
     {
-        self.reason.number()
+        Reason::number(self.reason)
     }
 
     /// The first place, or 0.

@@ -15,7 +15,7 @@ use Rattle.std.proofs.shelf.Elements.{kept-by-more}
 use Rattle.std.proofs.shelf.Filters.{length-kept-by-more}
 use Rattle.std.proofs.shelf.Lists.{take-all, append-nil}
 use Rattle.std.proofs.shelf.Sums.{folded-push}
-use Rattle.marks.specs.declared.numbers.Charge.{Charge}
+use Rattle.marks.specs.declared.numbers.charge.Charge.{Charge}
 use Rattle.marks.specs.Numbers.{most-charges}
 use Rattle.marks.specs.Sets.{all-below}
 use Rattle.tables.specs.Meaning.{Meaning, Proper, count-of, row-of}

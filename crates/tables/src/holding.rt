@@ -45,8 +45,10 @@ impl Holding {
         ensures closure { λ _. ⌜ now (self .exit) .closure .bits ≡ cond (held-by (set .bits) (row .bits)) (bitAnd (now (self .entry) .closure .bits) (row .bits)) (now (self .entry) .closure .bits) ⌝ }
     {
         if set.is_part_of(row) {
-            self.support += 1;
-            self.closure = self.closure.intersection(row);
+            *self = Holding {
+                support: self.support + 1,
+                closure: self.closure.intersection(row),
+            };
         }
     }
 

@@ -1,7 +1,7 @@
 use Prim.Native.Nat.{ℕ, suc, _-_}
 use Rattle.std.specs.declared.option.Option.{Option}
 use Rattle.std.specs.declared.option.Option.the-variants.{Some, None}
-use Rattle.marks.specs.declared.numbers.Mark.{Mark}
+use Rattle.marks.specs.declared.numbers.mark.Mark.{Mark}
 use Rattle.marks.specs.Numbers.{most-marks}
 use Rattle.listing.proofs.print_marks.Given as given
 

@@ -10,7 +10,7 @@ use Rattle.tables.proofs.holding.Holding.of.Needs as need
 pub loop-next-holds : need.loop-next-holds
 loop-next-holds g c =
     passed-none (g .T·Rows .meaning (c .args .table .now)) (c .args .set .bits) (c .count-count .result) (c .first-next .result) (c .up-to .result .bits)
-    (c .count-count .ensures) (c .first-next .ensures) (c .up-to .ensures .value ∙ ap all-below (c .width .ensures))
+    (c .count-count .ensures) (c .first-next .ensures) (c .up-to .ensures ∙ ap all-below (c .width .ensures))
 
 pub loop-next-again : need.loop-next-again
 loop-next-again g c =

@@ -19,14 +19,14 @@ returns-then-bytes c =
 
 pub returns-in-Some : need.returns-in-Some
 returns-in-Some c =
-    refused-stray (c .args .bytes .now) (c .args .width .number) (c .if-bytes-ne0 .left) (c .if-bytes .left) (c .in-Some .charge) (ap (λ all. first-place (strays all) (packed-rows (c .args .bytes .now))) (sym (c .up-to .ensures .value)) ∙ sym (c .in-Some .ensures tt))
+    refused-stray (c .args .bytes .now) (c .args .width .number) (c .if-bytes-ne0 .left) (c .if-bytes .left) (c .in-Some .charge) (ap (λ all. first-place (strays all) (packed-rows (c .args .bytes .now))) (sym (c .up-to .ensures)) ∙ sym (c .in-Some .ensures tt))
     ∙ ap (λ (e : Refusal). Some e) (sym (c .at .ensures))
 
 pub returns : need.returns
 returns c =
     let bytes = c .args .bytes .now in
     let n = c .args .width .number in
-    let none = ap (λ all. first-place (strays all) (packed-rows bytes)) (sym (c .up-to .ensures .value)) ∙ sym (c .in-rest .ensures tt) in (
+    let none = ap (λ all. first-place (strays all) (packed-rows bytes)) (sym (c .up-to .ensures)) ∙ sym (c .in-rest .ensures tt) in (
       accepted bytes n (c .if-bytes-ne0 .left) (c .if-bytes .left) none,
       ap (λ w. trimmed w (packed-rows bytes)) (c .get .ensures .value)
           ∙ trimmed-same n (packed-rows bytes) (packed-proper bytes n (c .args .width .range) (c .if-bytes .left) none),

@@ -14,7 +14,7 @@ pub returns-then-get-count : need.returns-then-get-count
 returns-then-get-count c =
     let p = c .args .self .now in
     let rows = packed-rows (p .bytes .now) in
-    c .empty .ensures .value
+    c .empty .ensures
     ∙ sym (trimmed-past (p .width) rows (c .args .charge .number - 1) (omega (arith, trimmed-count (p .width) rows)))
 
 pub row-at-requires : need.row-at-requires
@@ -29,7 +29,7 @@ returns c =
     let k : ℕ = c .args .charge .number - 1 in
     let row : c .row-at .result .bits ≡ getD rows k 0 = c .row-at .ensures ∙ ap (λ (n : ℕ). getD rows (n - 1) 0) (c .get-2 .ensures .value) in
     let all : c .up-to .result .bits ≡ all-below (nearest-width (p .width)) =
-    c .up-to .ensures .value ∙ ap all-below (c .width .ensures ∙ trimmed-width (p .width) rows) in
-    c .intersection .ensures .value ∙ ap (λ (x : ℕ). bitAnd x (c .up-to .result .bits)) row ∙ ap (bitAnd (getD rows k 0)) all
+    c .up-to .ensures ∙ ap all-below (c .width .ensures ∙ trimmed-width (p .width) rows) in
+    c .intersection .ensures ∙ ap (λ (x : ℕ). bitAnd x (c .up-to .result .bits)) row ∙ ap (bitAnd (getD rows k 0)) all
     ∙ and-mask (getD rows k 0) (nearest-width (p .width))
     ∙ sym (trimmed-row (p .width) rows k (omega arith) (omega (arith, trimmed-count (p .width) rows)))

@@ -4,6 +4,8 @@ pub mod Sizes
 pub mod Algebra
 pub mod Enumerated
 pub mod Masks
+pub mod Picks
 pub mod Membership
 pub mod Places
 pub mod Due
+pub mod Walks

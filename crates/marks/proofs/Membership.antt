@@ -3,6 +3,7 @@ use Rattle.marks.specs.Sets.{Membership}
 use Rattle.marks.proofs.Enumerated.{length-bits}
 use Rattle.marks.proofs.Members.{has-none, has-only, has-all-below, has-or, has-and, has-xor}
 use Rattle.marks.proofs.Parts.{has-minus, same-members, part-decides}
+use Rattle.marks.proofs.Picks.{has-picked}
 use Rattle.marks.proofs.Sizes.{one-lowest, one-highest}
 
 pub membership : Membership
@@ -13,6 +14,7 @@ membership = record {
   of-either = has-or;
   of-both = has-and;
   of-differing = has-xor;
+  of-picked = has-picked;
   of-minus = has-minus;
   same = same-members;
   part = part-decides;

@@ -1,13 +1,15 @@
 -- The first element of a list that passes a test.
-use mathlib.Core.Path.{_≡_, refl, ap}
+use mathlib.Core.Path.{_≡_, refl, sym, ap, _∙_}
 use mathlib.Core.Bool.{Bool, true, false, cond}
 use mathlib.Core.List.{List, [], _∷_}
 use Prim.Native.Nat.{ℕ, zero, suc, _+_, _<_}
 use native.Mathlib.Omega.{arith}
 use lib.ListN.{length, getD}
+use Rattle.std.specs.Iters.{counting}
 use Rattle.std.specs.Options.{mapped}
 use Rattle.std.specs.declared.option.Option.{Option}
 use Rattle.std.specs.declared.option.Option.the-variants.{Some, None}
+use Rattle.std.proofs.shelf.Counted.{length-counting, getD-counting}
 use Rattle.marks.specs.Places.{first-place}
 
 module _ {A : Type 0} (test : A → Bool) (d : A) where
@@ -44,3 +46,22 @@ module _ {A : Type 0} (test : A → Bool) (d : A) where
           unmapped : (o : Option ℕ) → mapped (λ k. k + 1) o ≡ None → o ≡ None
           unmapped None e = refl
           unmapped (Some y) e = let z : _≡_ {A = ℕ} 0 1 = cc in absurd (omega arith)
+
+-- the same where the elements are the numbers below n
+
+module _ (test : ℕ → Bool) (n : ℕ) where
+  at-number : (k : ℕ) → k < n → getD (counting 0 n) k 0 ≡ k
+  at-number k h = getD-counting 0 n k 0 h ∙ (let e : 0 + k ≡ k = omega arith in e)
+
+  pub first-number-some : (i : ℕ) → i < n → test i ≡ true → ((k : ℕ) → k < i → test k ≡ false) → first-place test (counting 0 n) ≡ Some (i + 1)
+  first-number-some i h t f =
+      first-place-some test 0 (counting 0 n) i (omega (arith, length-counting 0 n)) (ap test (at-number i h) ∙ t)
+      (λ k l. ap test (at-number k (omega arith)) ∙ f k l)
+
+  pub first-number-none : ((k : ℕ) → k < n → test k ≡ false) → first-place test (counting 0 n) ≡ None
+  first-number-none f =
+      first-place-none test 0 (counting 0 n)
+      (λ k l. let h : k < n = omega (arith, length-counting 0 n) in ap test (at-number k h) ∙ f k h)
+
+  pub no-number-passes : first-place test (counting 0 n) ≡ None → (k : ℕ) → k < n → test k ≡ false
+  no-number-passes e k h = sym (ap test (at-number k h)) ∙ none-passes test 0 (counting 0 n) e k (omega (arith, length-counting 0 n))

@@ -1,7 +1,7 @@
 -- Sets of marks, each kept as a number: the mark at bit b is in the set s where bit b of s is 1. Mark i is at bit i - 1.
-use Prim.Native.Nat.{ℕ, _-_, _/_, _%_, _^_, _<_}
+use Prim.Native.Nat.{ℕ, zero, suc, _-_, _/_, _%_, _^_, _<_}
 use mathlib.Core.Path.{_≡_}
-use mathlib.Core.Bool.{Bool, true, false, _&&_, _||_, not}
+use mathlib.Core.Bool.{Bool, true, false, _&&_, _||_, not, cond}
 use mathlib.Core.List.{List}
 use lib.Bits.{bitAnd, bitOr, bitXor}
 use lib.Count.{ones}
@@ -68,6 +68,11 @@ size-of s = ones s
 unfoldable pub bits-below : ℕ → ℕ → List ℕ
 bits-below n s = kept-by (has s) (counting 0 n)
 
+-- the marks at the bits below n that pass a test
+unfoldable pub picked : (ℕ → Bool) → ℕ → ℕ
+picked test zero = no-marks
+picked test (suc n) = cond (test n) (with-bit (picked test n) n) (picked test n)
+
 -- b is the bit of the lowest mark of x
 pub record Lowest (x b : ℕ) : Type 0 where
   pub held : has x b ≡ true
@@ -91,6 +96,7 @@ pub record Membership : Type 0 where
   pub of-either : (s t b : ℕ) → has (either s t) b ≡ (has s b || has t b)
   pub of-both : (s t b : ℕ) → has (both s t) b ≡ (has s b && has t b)
   pub of-differing : (s t b : ℕ) → has (differing s t) b ≡ differ (has s b) (has t b)
+  pub of-picked : (test : ℕ → Bool) (n b : ℕ) → has (picked test n) b ≡ (ltb b n && test b)
   pub of-minus : (s t b : ℕ) → s < 2 ^ most-marks → t < 2 ^ most-marks → has (minus s t) b ≡ (has s b && not (has t b))
   pub same : (s t : ℕ) → ((b : ℕ) → has s b ≡ has t b) → s ≡ t
   pub part : (x y : ℕ) → Decides (part-of x y) ((b : ℕ) → has x b ≡ true → has y b ≡ true)

@@ -1,5 +1,6 @@
 // Sets of marks. Each operation promises the set that a definition gives; which marks these sets have is promised once, by `holds`.
 ghost use mathlib.Core.Path.{_≡_};
+ghost use mathlib.Core.Bool.{cond};
 ghost use lib.Dec.{eqb};
 ghost use Rattle.std.specs.Options.{Cases as BySome};
 ghost use Rattle.marks.specs.Numbers.{bit-of};
@@ -77,6 +78,13 @@ impl MarkSet {
         ensures { λ r. ⌜ r .bits ≡ with-bit (self .bits) (bit-of (mark .number)) ⌝ }
     {
         self.union(MarkSet::only(mark))
+    }
+
+    /// The set with the mark, if it is held, and else the set as it is.
+    pub fn with_if(self, mark: Mark, held: bool) -> MarkSet
+        ensures { λ r. ⌜ r .bits ≡ cond held (with-bit (self .bits) (bit-of (mark .number))) (self .bits) ⌝ }
+    {
+        if held { self.with(mark) } else { self }
     }
 
     /// The set without the mark.

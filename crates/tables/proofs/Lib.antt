@@ -2,3 +2,5 @@ pub mod Trimmed
 pub mod Bytes
 pub mod Packing
 pub mod Passing
+pub mod Laid
+pub mod Columned

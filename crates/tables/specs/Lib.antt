@@ -1,3 +1,5 @@
 pub mod Meaning
 pub mod Holding
 pub mod Packed
+pub mod Columns
+pub mod Layers

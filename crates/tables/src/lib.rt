@@ -1,5 +1,7 @@
 // Tables of charges: what a table means, and what stands for one.
+pub mod columns;
 pub mod holding;
+pub mod layers;
 pub mod packed;
 pub mod table;
 

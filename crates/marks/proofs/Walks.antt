@@ -1,5 +1,5 @@
 -- A walk over the marks up to a width, which gathers those that pass a test.
-use mathlib.Core.Path.{_≡_, sym, ap, _∙_}
+use mathlib.Core.Path.{_≡_, sym, ap, _∙_, subst}
 use mathlib.Core.Bool.{Bool, cond}
 use Prim.Native.Nat.{ℕ, _+_, _-_, _≤_, _<_}
 use native.Mathlib.Omega.{arith}
@@ -50,6 +50,16 @@ module _ (test : ℕ → Bool) (n : ℕ) where
       now-is =
           e ∙ ap (λ s. cond (test (bit-of (mark .number))) (with-bit s (bit-of (mark .number))) s) (before .gathered)
           ∙ sym (picked-more test (bit-of (mark .number)))
+
+  -- fewer are left
+  pub gathered-less : (mark : Mark) (old : Option Mark) (set : ℕ) → Gathered test n old set → old ≡ Some mark → (next : Option Mark)
+      → Cases next (n ≤ mark .number) (λ m. (m .number ≡ mark .number + 1) × (mark .number < n)) → n - behind n next < n - behind n old
+  gathered-less mark old set before e next step = subst (λ o. n - behind n next < n - behind n o) (sym e) (by next step (subst (Among n) e (before .among)))
+    where
+      by : (next : Option Mark) → Cases next (n ≤ mark .number) (λ m. (m .number ≡ mark .number + 1) × (mark .number < n)) → mark .number ≤ n
+          → n - behind n next < n - bit-of (mark .number)
+      by None f a = omega (arith, mark .range .0)
+      by (Some m) f a = omega (arith, f .0, f .1, mark .range .0)
 
   pub gathered-all : (next : Option Mark) (set : ℕ) → Gathered test n next set → next ≡ None → set ≡ picked test n
   gathered-all next set p e = p .gathered ∙ ap (λ o. picked test (behind n o)) e

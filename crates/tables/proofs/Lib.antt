@@ -4,3 +4,4 @@ pub mod Packing
 pub mod Passing
 pub mod Laid
 pub mod Columned
+pub mod Choosing

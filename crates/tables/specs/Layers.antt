@@ -1,11 +1,11 @@
 -- What each layer makes of the table below it.
-use mathlib.Core.Bool.{Bool, false, not, _||_}
+use mathlib.Core.Bool.{Bool, not}
 use mathlib.Core.List.{List, [], _∷_, map}
 use Prim.Native.Nat.{ℕ, _-_}
 use lib.Dec.{eqb}
 use lib.ListN.{length, getD, take, drop}
 use Rattle.std.specs.Iters.{counting}
-use Rattle.std.specs.Options.{mapped}
+use Rattle.std.specs.Options.{isSome, mapped}
 use Rattle.std.specs.declared.option.Option.{Option}
 use Rattle.marks.specs.declared.refusal.Reason.the-variants.{Range, BadChoice}
 use Rattle.marks.specs.declared.refusal.Refusal.{Refusal}
@@ -33,8 +33,7 @@ selected marks m = record { width = length marks; rows = map (chosen-from marks)
 
 -- x stands in the list
 abbrev pub occurs : ℕ → List ℕ → Bool
-occurs x [] = false
-occurs x (y ∷ ys) = eqb x y || occurs x ys
+occurs x list = isSome (first-place (eqb x) list)
 
 -- the entry at the place i, which counts from 0, stands before it too
 abbrev pub repeats : List ℕ → ℕ → Bool

@@ -3,3 +3,4 @@ pub mod Holding
 pub mod Packed
 pub mod Columns
 pub mod Layers
+pub mod Chosen

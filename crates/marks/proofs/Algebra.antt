@@ -27,14 +27,14 @@ and-or x y z = same-members (bitAnd x (bitOr y z)) (bitOr (bitAnd x y) (bitAnd x
 pub or-absorb : (x y : ℕ) → bitOr x (bitAnd x y) ≡ x
 or-absorb x y = same-members (bitOr x (bitAnd x y)) x (λ b. grind (arith, members))
 
-pub or-part-of : (x r : ℕ) → PartOf x r → bitOr x r ≡ r
-or-part-of x r w = same-members (bitOr x r) r (λ b. grind (arith, members, part-has x r b w))
+pub or-of-part : (x r : ℕ) → PartOf x r → bitOr x r ≡ r
+or-of-part x r w = same-members (bitOr x r) r (λ b. grind (arith, members, part-has x r b w))
 
 pub and-mono : (x y u v : ℕ) → PartOf x u → PartOf y v → PartOf (bitAnd x y) (bitAnd u v)
 and-mono x y u v p q = part-from-has (bitAnd x y) (bitAnd u v) (λ b e. grind (arith, members, part-has x u b p, part-has y v b q))
 
-pub minus-part-of : (s t : ℕ) → s < 2 ^ 32 → t < 2 ^ 32 → PartOf (minus s t) s
-minus-part-of s t p q = part-from-has (minus s t) s (λ b e. grind (arith, has-minus s t b p q))
+pub minus-part : (s t : ℕ) → s < 2 ^ 32 → t < 2 ^ 32 → PartOf (minus s t) s
+minus-part s t p q = part-from-has (minus s t) s (λ b e. grind (arith, has-minus s t b p q))
 
 pub minus-or : (s t : ℕ) → s < 2 ^ 32 → t < 2 ^ 32 → bitOr (minus s t) t ≡ bitOr s t
 minus-or s t p q = same-members (bitOr (minus s t) t) (bitOr s t) (λ b. grind (arith, has-or, has-minus s t b p q))
@@ -77,7 +77,7 @@ within-sum-right x y d = part-from-has y (x + y) (λ b e. grind (arith, has-sum 
 pub disjoint-from-has : (x y : ℕ) → ((b : ℕ) → has x b ≡ true → has y b ≡ false) → bitAnd x y ≡ 0
 disjoint-from-has x y f = same-members (bitAnd x y) 0 (λ b. let g : has x b ≡ true → has y b ≡ false = f b in grind (arith, members))
 
--- of a set part-of another, the difference of the numbers is the difference of the sets
+-- of a set that is a part of another, the difference of the numbers is the difference of the sets
 pub within-half : (x r : ℕ) → PartOf x r → (bitAnd (x / 2) (r / 2) ≡ x / 2) × (x % 2 ≤ r % 2)
 within-half x r w =
     let a : bitAnd x r ≡ bitAnd (x / 2) (r / 2) * 2 + min (x % 2) (r % 2) = and-step x r in
@@ -99,8 +99,8 @@ has-diff x r (suc b) w =
 pub rest-differ : (x r : ℕ) → PartOf x r → bitAnd x (r - x) ≡ 0
 rest-differ x r w = disjoint-from-has x (r - x) (λ b e. has-diff x r b w ∙ rw e (grind arith))
 
-pub rest-part-of : (x r : ℕ) → PartOf x r → PartOf (r - x) r
-rest-part-of x r w = part-from-has (r - x) r (λ b e. grind (arith, has-diff x r b w))
+pub rest-part : (x r : ℕ) → PartOf x r → PartOf (r - x) r
+rest-part x r w = part-from-has (r - x) r (λ b e. grind (arith, has-diff x r b w))
 
 pub ones-rest : (x r : ℕ) → PartOf x r → ones x + ones (r - x) ≡ ones r
 ones-rest x r w =

@@ -1,4 +1,4 @@
--- One set part-of another.
+-- One set a part of another.
 use Prim.Native.Nat.{ℕ, zero, suc, _+_, _^_, _≤_, _<_}
 use mathlib.Core.Path.{_≡_, refl, sym, ap, _∙_, subst}
 use mathlib.Core.Bool.{true, false, _&&_, _||_, not}
@@ -63,7 +63,7 @@ part-le x y p = omega (arith, and-le-r x y)
 pub part-none : (x : ℕ) → PartOf 0 x
 part-none x = refl
 
--- the greatest set part-of both
+-- the greatest set that is a part of both
 pub and-part-left : (x y : ℕ) → PartOf (bitAnd x y) x
 and-part-left x y = part-from-has (bitAnd x y) x (λ b e. grind (arith, has-and))
 
@@ -73,7 +73,7 @@ and-part-right x y = part-from-has (bitAnd x y) y (λ b e. grind (arith, has-and
 pub part-and : (z x y : ℕ) → PartOf z x → PartOf z y → PartOf z (bitAnd x y)
 part-and z x y p q = part-from-has z (bitAnd x y) (λ b e. has-and x y b ∙ and-from (has x b) (has y b) (part-has z x b p e) (part-has z y b q e))
 
--- the least set that both are part-of
+-- the least set that both are parts of
 pub part-or-left : (x y : ℕ) → PartOf x (bitOr x y)
 part-or-left x y = part-from-has x (bitOr x y) (λ b e. grind (arith, has-or))
 
@@ -84,7 +84,7 @@ pub or-part : (x y z : ℕ) → PartOf x z → PartOf y z → PartOf (bitOr x y)
 or-part x y z p q =
     part-from-has (bitOr x y) z (λ b e. grind (arith, has-or x y b, part-has x z b p, part-has y z b q))
 
--- part-of the numbers below n
+-- a part of the numbers below n
 pub part-all-below : (n x : ℕ) → x < 2 ^ n → PartOf x (all-below n)
 part-all-below n x h = and-mask x n ∙ mod-eq-of-lt h
 
@@ -136,5 +136,5 @@ pub has-without : (s b j : ℕ) → s < 2 ^ 32 → b < 32 → has (without-bit s
 has-without s b j p h = has-minus s (2 ^ b) j p (pow-below b 32 h) ∙ ap (λ t. has s j && not t) (has-only b j)
 
 -- two sets with no member in common
-pub sum-part-of : (x y r : ℕ) → bitAnd x y ≡ 0 → PartOf x r → PartOf y r → PartOf (x + y) r
-sum-part-of x y r d p q = rw (or-disjoint x y d) at (or-part x y r p q)
+pub sum-part : (x y r : ℕ) → bitAnd x y ≡ 0 → PartOf x r → PartOf y r → PartOf (x + y) r
+sum-part x y r d p q = rw (or-disjoint x y d) at (or-part x y r p q)

@@ -10,7 +10,7 @@ use Rattle.std.proofs.shelf.Tests.{lt-ltb, le-ltb, eq-eqb, ne-eqb, cases-eq, ca
 use Rattle.std.proofs.shelf.Ways.{tells}
 use Rattle.marks.specs.Sets.{has, with-bit, picked}
 use Rattle.marks.proofs.Algebra.{below-from-has}
-use Rattle.marks.proofs.Members.{has-none}
+use Rattle.marks.proofs.Members.{has-none, has-past}
 use Rattle.marks.proofs.Parts.{has-with, same-members}
 
 module _ (test : ℕ → Bool) where
@@ -48,3 +48,21 @@ picked-same f g n e = same-members (picked f n) (picked g n) at
 -- none is at n or above
 pub picked-below : (test : ℕ → Bool) (n : ℕ) → picked test n < 2 ^ n
 picked-below test n = below-from-has n (picked test n) (λ b h. has-picked test n b ∙ grind (arith, tells))
+
+-- where none passes, none is picked
+pub picked-empty : (test : ℕ → Bool) (n : ℕ) → ((b : ℕ) → b < n → test b ≡ false) → picked test n ≡ 0
+picked-empty test n e = same-members (picked test n) 0 at
+  where
+    at : (b : ℕ) → has (picked test n) b ≡ has 0 b
+    at b =
+        ⊎-elim (λ h. rw (has-picked test n b, e b h, has-none b) (grind arith)) (λ h. rw (has-picked test n b, le-ltb b n h, has-none b))
+        (cases-lt b n)
+
+-- a set is what is picked of its own marks
+pub picked-own : (s n : ℕ) → s < 2 ^ n → picked (has s) n ≡ s
+picked-own s n l = same-members (picked (has s) n) s at
+  where
+    at : (b : ℕ) → has (picked (has s) n) b ≡ has s b
+    at b =
+        ⊎-elim (λ h. rw (has-picked (has s) n b, lt-ltb b n h)) (λ h. rw (has-picked (has s) n b, le-ltb b n h, has-past n s b l h))
+        (cases-lt b n)

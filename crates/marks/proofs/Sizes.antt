@@ -11,9 +11,9 @@ use lib.Bits.{bitAnd, bitOr, and-self, and-step, or-step, or-add-and}
 use lib.Count.{ones, ones-step, trailingZeros, leadingZeros, leading-top, under}
 use Rattle.std.proofs.shelf.Tests.{eqb-true, eqb-false, eq-eqb, ne-eqb}
 use Rattle.std.proofs.shelf.Ways.{tells}
-use Rattle.marks.specs.Sets.{has, PartOf, with-bit, Lowest, Highest}
+use Rattle.marks.specs.Sets.{has, PartOf, with-bit, without-bit, Lowest, Highest}
 use Rattle.marks.proofs.Members.{has-zero, has-suc, has-past, has-below}
-use Rattle.marks.proofs.Parts.{with-adds, part-le, only-part}
+use Rattle.marks.proofs.Parts.{has-without, same-members, with-adds, part-le, only-part}
 
 pub ones-zero : ones 0 ≡ 0
 unfolding ones
@@ -48,8 +48,8 @@ ones-with s b h =
     omega (arith, ones-or-and s (2 ^ b), ones-only b)
 
 -- fewer members, unless it is the same set
-pub ones-part-of : (x r : ℕ) → PartOf x r → ones x ≤ ones r
-ones-part-of x r w =
+pub ones-part : (x r : ℕ) → PartOf x r → ones x ≤ ones r
+ones-part x r w =
     go x r w
   where
     go : (x : ℕ) (r : ℕ) → bitAnd x r ≡ x → ones x ≤ ones r
@@ -68,7 +68,7 @@ ones-strict =
     (λ x ih r w e.
     let a : (bitAnd x r) ≡ bitAnd (x / 2) (r / 2) * 2 + min (x % 2) (r % 2) = and-step x r in
     let a2 : bitAnd (x / 2) (r / 2) ≡ x / 2 = omega arith in
-    let le : ones (x / 2) ≤ ones (r / 2) = ones-part-of (x / 2) (r / 2) a2 in
+    let le : ones (x / 2) ≤ ones (r / 2) = ones-part (x / 2) (r / 2) a2 in
     let e2 : ones (x / 2) ≡ ones (r / 2) = omega (arith, ones-step x, ones-step r) in
     omega (arith, ih (r / 2) a2 e2, ones-step x, ones-step r))
   where
@@ -184,3 +184,10 @@ leading-highest k x p h =
 -- a set has one highest member
 pub one-highest : (x s t : ℕ) → Highest x s → Highest x t → s ≡ t
 one-highest x s t p q = grind (arith, p .held, q .held, p .none-above t, q .none-above s)
+
+-- a mark taken out is its bit less
+pub without-is : (s b : ℕ) → s < 2 ^ 32 → has s b ≡ true → without-bit s b ≡ s - 2 ^ b
+without-is s b l h = same-members (without-bit s b) (s - 2 ^ b) (λ j. has-without s b j l (has-below 32 s b l h) ∙ sym (has-less s b j h))
+
+pub without-less : (s b : ℕ) → s < 2 ^ 32 → has s b ≡ true → without-bit s b < s
+without-less s b l h = omega (arith, without-is s b l h, has-le s b h, pow-pos b)

@@ -1,9 +1,9 @@
 -- The marks of a choice, and the table that shows them.
 use mathlib.Core.Path.{_≡_, refl, sym, ap, _∙_, subst}
-use mathlib.Core.Bool.{Bool, true, false, _&&_, _||_, not, cond}
-use mathlib.Core.List.{List, [], _∷_, _++_, map}
-use mathlib.Core.Logic.{_⊎_, inl, inr, ⊎-elim}
-use Prim.Native.Nat.{ℕ, zero, suc, _+_, _-_, _^_, _<_, _≤_, min}
+use mathlib.Core.Bool.{Bool, true, false, not, cond}
+use mathlib.Core.List.{List, map}
+use mathlib.Core.Logic.{_⊎_, inl, inr}
+use Prim.Native.Nat.{ℕ, zero, suc, _-_, _^_, _<_, _≤_, min}
 use native.Mathlib.Omega.{arith}
 use lib.Dec.{eqb, ltb, leb}
 use lib.ListN.{length, getD, take}
@@ -11,20 +11,20 @@ use Rattle.std.specs.Iters.{counting}
 use Rattle.std.specs.Options.{isSome}
 use Rattle.std.specs.declared.option.Option.{Option}
 use Rattle.std.specs.declared.option.Option.the-variants.{Some, None}
-use Rattle.std.proofs.shelf.Lists.{getD-past, getD-take, getD-map, length-take, length-map, take-more, ext-getD}
-use Rattle.std.proofs.shelf.Tests.{cases-lt, eq-eqb, ne-eqb, eqb-true, lt-ltb, le-ltb, both-ways, not-false, and-parts, leb-true, or-parts, eqb-false}
+use Rattle.std.proofs.shelf.Lists.{getD-past, getD-take, getD-map, length-take, length-map, ext-getD}
+use Rattle.std.proofs.shelf.Tests.{cases-lt, eq-eqb, ne-eqb, lt-ltb, le-ltb, both-ways, not-false, and-parts, leb-true, eqb-false}
 use Rattle.marks.specs.declared.numbers.mark.Mark.{Mark}
 use Rattle.marks.specs.declared.refusal.Reason.the-variants.{Range, BadChoice}
 use Rattle.marks.specs.Numbers.{most-marks, InRange, in-range, bit-of}
 use Rattle.marks.specs.Places.{first-place}
 use Rattle.marks.specs.Refusals.{placed-at}
-use Rattle.marks.specs.Sets.{has, no-marks, picked}
+use Rattle.marks.specs.Sets.{has}
 use Rattle.marks.proofs.Members.{has-none}
 use Rattle.marks.proofs.Parts.{same-members}
 use Rattle.marks.proofs.Picks.{has-picked, picked-below}
 use Rattle.marks.proofs.Places.{none-passes, no-number-passes}
 use Rattle.tables.specs.Chosen.{chosen}
-use Rattle.tables.specs.Layers.{selected, chosen-from, occurs, repeats, choice-refusal}
+use Rattle.tables.specs.Layers.{selected, chosen-from, repeats, choice-refusal}
 use Rattle.tables.specs.Meaning.{Meaning, Proper, count-of, row-of}
 
 -- ---- the list that a choice holds
@@ -68,7 +68,7 @@ module _ (marks : List ℕ) (m : Meaning) where
       elim (cases-lt k (count-of m)) [
         | inl h ↦ getD-map (chosen-from marks) (m .rows) k 0 0 h
         | inr h ↦ getD-past (selected marks m .rows) k 0 (omega (arith, selected-count))
-          ∙ sym (ap (chosen-from marks) (getD-past (m .rows) k 0 h) ∙ chosen-none marks)
+            ∙ sym (ap (chosen-from marks) (getD-past (m .rows) k 0 h) ∙ chosen-none marks)
       ]
 
   pub selected-row : (charge : ℕ) → row-of (selected marks m) charge ≡ chosen-from marks (row-of m charge)
@@ -163,8 +163,8 @@ pub at-most : (numbers : List ℕ) → first-place outside numbers ≡ None → 
 at-most numbers marks different =
     elim (cases-lt most-marks (length numbers)) [
       | inl h ↦ absurd (pigeons most-marks (λ i. getD numbers i 0 - 1)
-        (λ i l. let q = inside numbers marks i (omega arith) in omega (arith, q .0, q .1))
-        (λ i j l m e. apart numbers different i j l (omega arith)
-        (let p = inside numbers marks i (omega arith) in let q = inside numbers marks j (omega arith) in omega (arith, p .0, q .0))))
+          (λ i l. let q = inside numbers marks i (omega arith) in omega (arith, q .0, q .1))
+          (λ i j l m e. apart numbers different i j l (omega arith)
+          (let p = inside numbers marks i (omega arith) in let q = inside numbers marks j (omega arith) in omega (arith, p .0, q .0))))
       | inr h ↦ h
     ]

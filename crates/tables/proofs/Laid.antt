@@ -1,11 +1,10 @@
 -- What a layer of reversed marks and a window answer, and that they are proper.
 use mathlib.Core.Path.{_≡_, refl, sym, ap, _∙_, subst}
 use mathlib.Core.Logic.{inl, inr}
-use mathlib.Core.List.{List, map}
 use Prim.Native.Nat.{ℕ, _+_, _-_, _^_, _<_, _≤_, min}
 use native.Mathlib.Omega.{arith}
-use lib.Bits.{bitAnd, bitXor, mask-lt}
-use lib.ListN.{length, getD, take, drop}
+use lib.Bits.{bitAnd, mask-lt}
+use lib.ListN.{getD, drop}
 use Rattle.std.proofs.shelf.Bits.{pow-pos, xor-lt}
 use Rattle.std.proofs.shelf.Lists.{getD-past, getD-take, getD-drop, getD-map, length-take, length-drop, length-map}
 use Rattle.std.proofs.shelf.Tests.{cases-lt}
@@ -47,7 +46,7 @@ module _ (flipped : ℕ) (m : Meaning) where
       at k =
           elim (cases-lt k (count-of m)) [
             | inl h ↦ subst (λ row. row < 2 ^ m .width) (sym (reversed-at k h))
-              (xor-lt (m .width) (getD (m .rows) k 0) (bitAnd flipped (all-below (m .width))) (p .within k) (mask-lt flipped (m .width)))
+                (xor-lt (m .width) (getD (m .rows) k 0) (bitAnd flipped (all-below (m .width))) (p .within k) (mask-lt flipped (m .width)))
             | inr h ↦ omega (arith, getD-past (reversed flipped m .rows) k 0 (omega (arith, reversed-count)), pow-pos (m .width))
           ]
 

@@ -5,3 +5,4 @@ pub mod Passing
 pub mod Laid
 pub mod Columned
 pub mod Choosing
+pub mod Turned

@@ -63,6 +63,30 @@ abbrev pub Among : ℕ → Option Charge → Type 0
 Among count None = Unit {0}
 Among count (Some charge) = charge .number ≤ count
 
+-- what `Charge::first` and `Charge::next` say of the charge that they give
+abbrev First : ℕ → Option Charge → Type 0
+First count next = Cases next (count ≡ 0) (λ c. (c .number ≡ 1) × (1 ≤ count))
+
+abbrev Next : ℕ → Charge → Option Charge → Type 0
+Next count charge next = Cases next (min count most-charges ≤ charge .number) (λ c. (c .number ≡ charge .number + 1) × (charge .number < min count most-charges))
+
+pub first-among : (count : ℕ) (next : Option Charge) → First count next → Among count next
+first-among count None e = tt
+first-among count (Some charge) e = omega (arith, e .0, e .1)
+
+pub first-passed : (count : ℕ) (next : Option Charge) → First count next → passed count next ≡ 0
+first-passed count None e = e
+first-passed count (Some charge) e = omega (arith, e .0)
+
+pub next-among : (count : ℕ) (charge : Charge) (next : Option Charge) → Next count charge next → Among count next
+next-among count charge None e = tt
+next-among count charge (Some c) e = omega (arith, e .0, e .1)
+
+pub next-passed : (count : ℕ) (charge : Charge) (next : Option Charge) → charge .number ≤ count → count ≤ most-charges → Next count charge next
+    → passed count next ≡ charge .number - 1 + 1
+next-passed count charge None l few e = omega (arith, charge .range .0)
+next-passed count charge (Some c) l few e = omega (arith, e .0, charge .range .0)
+
 -- support and closure are those of the charges that are behind
 pub record Passed (m : Meaning) (s count : ℕ) (next : Option Charge) (support closure : ℕ) : Type 0 where
   pub all : count ≡ count-of m
@@ -72,64 +96,43 @@ pub record Passed (m : Meaning) (s count : ℕ) (next : Option Charge) (support 
   pub closure-is : closure ≡ closure-of (ending-after (passed count next) m) s
 
 -- at the first charge
-pub passed-none : (m : Meaning) (s count : ℕ) (next : Option Charge) (closure : ℕ) → count ≡ count-of m
-    → Cases next (count ≡ 0) (λ c. (c .number ≡ 1) × (1 ≤ count)) → closure ≡ all-below (m .width) → Passed m s count next 0 closure
-passed-none m s count None closure e n f =
+pub passed-none : (m : Meaning) (s count : ℕ) (next : Option Charge) (closure : ℕ) → count ≡ count-of m → First count next → closure ≡ all-below (m .width)
+    → Passed m s count next 0 closure
+passed-none m s count next closure e n f =
+    let z = first-passed count next n in
     record {
       all = e;
-      among = tt;
-      few = omega arith;
-      support-is = sym (ap (λ k. support-of (ending-after k m) s) n ∙ support-none m s);
-      closure-is = f ∙ sym (ap (λ k. closure-of (ending-after k m) s) n ∙ closure-none m s);
-    }
-passed-none m s count (Some charge) closure e n f =
-    let z : charge .number - 1 ≡ 0 = omega (arith, n .0) in
-    record {
-      all = e;
-      among = omega (arith, n .0, n .1);
+      among = first-among count next n;
       few = omega arith;
       support-is = sym (ap (λ k. support-of (ending-after k m) s) z ∙ support-none m s);
       closure-is = f ∙ sym (ap (λ k. closure-of (ending-after k m) s) z ∙ closure-none m s);
     }
 
 -- at the charge after
-module _ (m : Meaning) (proper : Proper m) (s count : ℕ) (charge : Charge) (next : Option Charge) (support closure : ℕ)
-    (before : Passed m s count (Some charge) support closure)
-    (step : Cases next (min count most-charges ≤ charge .number) (λ c. (c .number ≡ charge .number + 1) × (charge .number < min count most-charges))) where
-  behind : (next : Option Charge) → Cases next (min count most-charges ≤ charge .number) (λ c. (c .number ≡ charge .number + 1) × (charge .number < min count most-charges))
-      → passed count next ≡ (charge .number - 1) + 1
-  behind None f = omega (arith, before .all, before .among, proper .few, charge .range .0)
-  behind (Some c) f = omega (arith, f .0, charge .range .0)
-
-  among-next : (next : Option Charge) → Cases next (min count most-charges ≤ charge .number) (λ c. (c .number ≡ charge .number + 1) × (charge .number < min count most-charges))
-      → Among count next
-  among-next None f = tt
-  among-next (Some c) f = omega (arith, f .0, f .1)
-
-  within : charge .number - 1 < count-of m
-  within = omega (arith, before .all, before .among, charge .range .0)
-
-  pub passed-more : (support′ closure′ : ℕ) → support′ ≡ support + cond (held-by s (row-of m (charge .number))) 1 0
-      → closure′ ≡ cond (held-by s (row-of m (charge .number))) (bitAnd closure (row-of m (charge .number))) closure
-      → Passed m s count next support′ closure′
-  passed-more support′ closure′ e f =
-      let b = behind next step in
-      let r : ℕ = row-of m (charge .number) in
-      record {
-        all = before .all;
-        among = among-next next step;
-        few = rw b (omega (arith, e, before .few, one (held-by s r)));
-        support-is =
-            e ∙ ap (λ a. a + cond (held-by s r) 1 0) (before .support-is) ∙ sym (support-more m s (charge .number - 1) within)
-            ∙ ap (λ n. support-of (ending-after n m) s) (sym b);
-        closure-is =
-            f ∙ ap (λ a. cond (held-by s r) (bitAnd a r) a) (before .closure-is) ∙ sym (closure-more m s (charge .number - 1) within)
-            ∙ ap (λ n. closure-of (ending-after n m) s) (sym b);
-      }
-    where
-      one : (b : Bool) → cond b 1 0 ≤ 1
-      one true = omega arith
-      one false = omega arith
+pub passed-more : (m : Meaning) → Proper m → (s count : ℕ) (charge : Charge) (next : Option Charge) (support closure : ℕ)
+    → Passed m s count (Some charge) support closure → Next count charge next
+    → (support′ closure′ : ℕ) → support′ ≡ support + cond (held-by s (row-of m (charge .number))) 1 0
+    → closure′ ≡ cond (held-by s (row-of m (charge .number))) (bitAnd closure (row-of m (charge .number))) closure
+    → Passed m s count next support′ closure′
+passed-more m proper s count charge next support closure before step support′ closure′ e f =
+    let b = next-passed count charge next (before .among) (omega (arith, before .all, proper .few)) step in
+    let r : ℕ = row-of m (charge .number) in
+    let within : charge .number - 1 < count-of m = omega (arith, before .all, before .among, charge .range .0) in
+    record {
+      all = before .all;
+      among = next-among count charge next step;
+      few = rw b (omega (arith, e, before .few, one (held-by s r)));
+      support-is =
+          e ∙ ap (λ a. a + cond (held-by s r) 1 0) (before .support-is) ∙ sym (support-more m s (charge .number - 1) within)
+          ∙ ap (λ n. support-of (ending-after n m) s) (sym b);
+      closure-is =
+          f ∙ ap (λ a. cond (held-by s r) (bitAnd a r) a) (before .closure-is) ∙ sym (closure-more m s (charge .number - 1) within)
+          ∙ ap (λ n. closure-of (ending-after n m) s) (sym b);
+    }
+  where
+    one : (b : Bool) → cond b 1 0 ≤ 1
+    one true = omega arith
+    one false = omega arith
 
 -- past the last charge
 pub passed-all : (m : Meaning) (s count : ℕ) (next : Option Charge) (support closure : ℕ) → Passed m s count next support closure → next ≡ None

@@ -1,5 +1,6 @@
 -- A columns table: for each mark a bit for each charge, in words of 64 bits.
-use mathlib.Core.Bool.{Bool, not}
+use mathlib.Core.Path.{_≡_}
+use mathlib.Core.Bool.{Bool, _&&_, not, cond}
 use mathlib.Core.List.{List, [], _∷_, map}
 use Prim.Native.Nat.{ℕ, _+_, _-_, _*_, _/_, _%_, min}
 use lib.Dec.{eqb, ltb}
@@ -7,12 +8,13 @@ use lib.ListN.{length, getD}
 use Rattle.std.specs.Iters.{counting}
 use Rattle.std.specs.Options.{mapped}
 use Rattle.std.specs.declared.option.Option.{Option}
+use Rattle.std.specs.declared.option.Option.the-variants.{None}
 use Rattle.marks.specs.declared.refusal.Reason.the-variants.{TooMany, WordCount, Stray}
 use Rattle.marks.specs.declared.refusal.Refusal.{Refusal}
 use Rattle.marks.specs.Numbers.{most-charges}
 use Rattle.marks.specs.Places.{first-place}
 use Rattle.marks.specs.Refusals.{unplaced, placed-at, due-if, first-due}
-use Rattle.marks.specs.Sets.{has, no-marks, picked}
+use Rattle.marks.specs.Sets.{has, no-marks, with-bit, picked}
 use Rattle.tables.specs.Meaning.{Meaning, count-of, nearest-width}
 
 -- how many bits a word has
@@ -61,6 +63,14 @@ turned-rows per n rows = map (turned-word per rows) (counting 0 (n * per))
 unfoldable pub turned : Meaning → List ℕ
 turned m = turned-rows (words-per-mark (count-of m)) (m .width) (m .rows)
 
+-- the word at i, of words with `per` to a mark, once the row at the place t, which counts from 0, has been put in
+abbrev pub put-word : ℕ → ℕ → ℕ → ℕ → ℕ → ℕ
+put-word per t row i word = cond (has row (i / per) && eqb (i % per) (t / word-bits)) (with-bit word (t % word-bits)) word
+
 -- turning a table into so many words
 unfoldable pub turn-refusal : Meaning → ℕ → Option Refusal
 turn-refusal m size = due-if (not (eqb size (m .width * words-per-mark (count-of m)))) (unplaced WordCount)
+
+-- a columns table over the words, of the width and count of m, is accepted and means m
+abbrev pub SameColumns : Meaning → List ℕ → Type 0
+SameColumns m words = (columns-refusal words (m .width) (count-of m) ≡ None) × (columns-meaning words (m .width) (count-of m) ≡ m)

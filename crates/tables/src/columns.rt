@@ -22,6 +22,8 @@ use marks::Reason;
 use marks::Refusal;
 use marks::Width;
 
+pub mod turning;
+
 /// How many bits a word has.
 pub const WORD_BITS: usize = 64;
 
@@ -134,7 +136,12 @@ pub impl Rows for Columns<'_> as ColumnsRows {
         if charge.get() > count {
             return MarkSet::empty();
         }
-        row_at(self.words, words_per_mark(count), self.width(), charge.get() as usize - 1)
+        row_at(
+            self.words,
+            words_per_mark(count),
+            self.width(),
+            charge.get() as usize - 1,
+        )
     }
 }
 

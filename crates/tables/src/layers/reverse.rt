@@ -38,7 +38,8 @@ pub impl<T: Table> Rows for Reverse<T> as ReverseRows {
         if charge.get() > self.below.count() {
             return MarkSet::empty();
         }
-        let flipped = self.flipped.intersection(MarkSet::up_to(self.below.width()));
+        let flipped = self.flipped
+            .intersection(MarkSet::up_to(self.below.width()));
         self.below.row(charge).symmetric_difference(flipped)
     }
 }

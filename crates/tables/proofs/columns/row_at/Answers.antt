@@ -1,7 +1,6 @@
-use mathlib.Core.Path.{_≡_, ap, _∙_, subst}
+use mathlib.Core.Path.{ap, _∙_, subst}
 use mathlib.Core.Bool.{Bool, cond}
 use Prim.Native.Nat.{ℕ}
-use native.Mathlib.Omega.{arith}
 use Rattle.marks.specs.Numbers.{bit-of}
 use Rattle.marks.specs.Sets.{with-bit}
 use Rattle.marks.proofs.Walks.{Gathered, gathered-start, gathered-more, gathered-all}

@@ -1,4 +1,3 @@
-use mathlib.Core.Path.{sym, _∙_}
 use native.Mathlib.Omega.{arith}
 use Rattle.tables.proofs.Columned.{columns-count}
 use Rattle.tables.proofs.columns.ColumnsRows.count.Needs as need

@@ -1,5 +1,4 @@
 use mathlib.Core.Path.{_≡_, sym, _∙_}
-use mathlib.Core.Bool.{Bool, not}
 use Prim.Native.Nat.{ℕ}
 use native.Mathlib.Omega.{arith}
 use borrow.Author.Count.{below-more}
@@ -9,7 +8,7 @@ use Rattle.marks.specs.declared.numbers.mark.Mark.{Mark}
 use Rattle.std.specs.declared.result.Result.{Result}
 use Rattle.marks.specs.declared.refusal.Refusal.{Refusal}
 use Rattle.marks.specs.declared.refusal.Reason.the-variants.{Range}
-use Rattle.marks.specs.Numbers.{most-marks, in-range}
+use Rattle.marks.specs.Numbers.{most-marks}
 use Rattle.marks.specs.Refusals.{Answers, unplaced, range-refusal}
 use Rattle.marks.proofs.Due.{refused-if}
 use Rattle.marks.proofs.Places.{first-place-some, first-place-none}

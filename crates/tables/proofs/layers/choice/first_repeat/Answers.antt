@@ -1,10 +1,10 @@
-use mathlib.Core.Path.{_≡_, sym, ap, _∙_}
+use mathlib.Core.Path.{_≡_, sym, _∙_}
 use native.Mathlib.Omega.{arith}
 use borrow.Author.Count.{below-more}
 use borrow.Author.Needs.{needs}
-use lib.ListN.{length, getD, take}
+use lib.ListN.{length}
 use Rattle.marks.proofs.Places.{first-number-some, first-number-none}
-use Rattle.tables.specs.Layers.{occurs, repeats}
+use Rattle.tables.specs.Layers.{repeats}
 use Rattle.tables.proofs.layers.choice.first_repeat.Needs as need
 
 pub loop-index-again : need.loop-index-again

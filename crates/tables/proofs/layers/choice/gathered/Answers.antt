@@ -27,7 +27,7 @@ more marks numbers i mark d l e f k h =
     elim (cases-lt k i) [
       | inl p ↦ (let ne : k ≢ i = omega arith in ap (λ m. m .number) (getD-set-other marks i k mark d ne) ∙ f k p)
       | inr p ↦ (let same : k ≡ i = omega arith in
-        ap (λ j. getD (set marks i mark) j d .number) same ∙ ap (λ m. m .number) (getD-set-same marks i mark d l) ∙ e ∙ ap (λ j. getD numbers j 0) (sym same))
+          ap (λ j. getD (set marks i mark) j d .number) same ∙ ap (λ m. m .number) (getD-set-same marks i mark d l) ∙ e ∙ ap (λ j. getD numbers j 0) (sym same))
     ]
 
 pub loop-index-again : need.loop-index-again

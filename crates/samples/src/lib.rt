@@ -1,14 +1,22 @@
-// Cases at the edges, run as tests.
+// Worked examples, and cases at the edges, run as tests.
+#[cfg(test)]
+mod columns;
+#[cfg(test)]
+mod layers;
+pub mod ledger;
 #[cfg(test)]
 mod numbers;
 #[cfg(test)]
 mod packed;
+pub mod piles;
 #[cfg(test)]
 mod sets;
 
 #[cfg(test)]
 mod told {
     use marks::Refusal;
+
+    pub const ACCEPTED: (u64, u64, u64) = (0, 0, 0);
 
     // What a call told: 0 0 0 where it accepted, else the refusal's number and places.
     pub fn told<T: Drop>(answer: Result<T, Refusal>) -> (u64, u64, u64) {

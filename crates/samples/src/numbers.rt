@@ -1,4 +1,5 @@
 // Numbers at the edges of their ranges.
+use crate::told::ACCEPTED;
 use crate::told::told;
 use marks::Charge;
 use marks::Mark;
@@ -6,8 +7,6 @@ use marks::Support;
 use marks::Width;
 use marks::refusal::RefusalDebug;
 use std::test::*;
-
-const ACCEPTED: (u64, u64, u64) = (0, 0, 0);
 
 const RANGE: (u64, u64, u64) = (2, 0, 0);
 

@@ -1,4 +1,5 @@
 // Packed tables at their edges.
+use crate::told::ACCEPTED;
 use crate::told::told;
 use marks::Charge;
 use marks::MarkSet;
@@ -11,8 +12,6 @@ use tables::Packed;
 use tables::PackedRows;
 use tables::PackedTable;
 use tables::Rows;
-
-const ACCEPTED: (u64, u64, u64) = (0, 0, 0);
 
 const RAGGED: (u64, u64, u64) = (11, 0, 0);
 

@@ -1,16 +1,18 @@
 -- What is trimmed is proper, and what is proper is not trimmed.
-use mathlib.Core.Path.{_≡_, refl, ap, _∙_}
+use mathlib.Core.Path.{_≡_, refl, sym, ap, _∙_}
 use mathlib.Core.Logic.{inl, inr}
 use mathlib.Core.List.{List, map}
-use Prim.Native.Nat.{ℕ, _%_, _^_, _<_, _≤_, min}
+use Prim.Native.Nat.{ℕ, _-_, _%_, _^_, _<_, _≤_, min}
 use native.Mathlib.Nat.{mod-eq-of-lt}
 use native.Mathlib.Omega.{arith}
+use lib.Bits.{and-mask}
 use lib.ListN.{length, getD, take}
 use Rattle.std.proofs.shelf.Bits.{pow-pos, mod-below}
 use Rattle.std.proofs.shelf.Lists.{getD-past, getD-take, getD-map, length-take, length-map, take-all, ext-getD}
 use Rattle.std.proofs.shelf.Tests.{cases-lt}
 use Rattle.marks.specs.Numbers.{most-charges}
-use Rattle.tables.specs.Meaning.{Meaning, Proper, count-of, nearest-width, trimmed}
+use Rattle.marks.specs.Sets.{both, all-below}
+use Rattle.tables.specs.Meaning.{Meaning, Proper, count-of, row-of, nearest-width, trimmed}
 
 abbrev trim : ℕ → ℕ → ℕ
 trim n row = row % 2 ^ nearest-width n
@@ -59,3 +61,13 @@ trimmed-same n rows p =
     let made : ℕ → List ℕ → Meaning = λ v xs. record { width = v; rows = map (λ row. row % 2 ^ v) xs } in
     ap (λ (v : ℕ). made v (take most-charges rows)) same ∙ ap (made n) (take-all most-charges rows (p .few))
     ∙ ap (λ (xs : List ℕ). record { width = n; rows = xs }) kept
+
+-- as a table answers: the row cut to the width, and none past the count
+pub trimmed-read : (n : ℕ) (rows : List ℕ) (charge : ℕ) → 1 ≤ charge → charge ≤ count-of (trimmed n rows)
+    → both (getD rows (charge - 1) 0) (all-below (nearest-width n)) ≡ row-of (trimmed n rows) charge
+trimmed-read n rows charge p h =
+    and-mask (getD rows (charge - 1) 0) (nearest-width n)
+    ∙ sym (trimmed-row n rows (charge - 1) (omega (arith, trimmed-count n rows)) (omega (arith, trimmed-count n rows)))
+
+pub trimmed-beyond : (n : ℕ) (rows : List ℕ) (charge : ℕ) → count-of (trimmed n rows) < charge → row-of (trimmed n rows) charge ≡ 0
+trimmed-beyond n rows charge h = trimmed-past n rows (charge - 1) (omega (arith, trimmed-count n rows))

@@ -9,3 +9,5 @@ pub mod Membership
 pub mod Places
 pub mod Due
 pub mod Walks
+pub mod SetOrder
+pub mod Neighbours

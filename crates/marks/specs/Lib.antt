@@ -1,4 +1,5 @@
 pub mod Numbers
+pub mod Orders
 pub mod Places
 pub mod Refusals
 pub mod Sets

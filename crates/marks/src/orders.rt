@@ -1,5 +1,4 @@
 // Strict orders, and the check of neighbours.
-ghost use mathlib.Core.Path.{_≡_};
 ghost use Rattle.std.specs.Orderings.{Decides};
 ghost use Rattle.marks.specs.Orders.{Before, FirstUnordered};
 use crate::sets::MarkSet;

@@ -5,12 +5,15 @@ mod columns;
 mod layers;
 pub mod ledger;
 #[cfg(test)]
+mod limits;
+#[cfg(test)]
 mod numbers;
 #[cfg(test)]
 mod packed;
 pub mod piles;
 #[cfg(test)]
 mod sets;
+pub mod within;
 
 #[cfg(test)]
 mod told {

@@ -21,6 +21,6 @@ returns-then-not-is-before g c =
       omega arith,
       λ k some under. c .loop-index .inv k some (omega arith),
       λ up. both-ways (c .is-before .result) (c .if-not-is-before .taken)
-        (c .is-before .ensures .1 (before-from (g .E·StrictOrder .before) (c .args .elements .now) (c .loop-index .index) (c .index-elements-index .result) (c .index-elements-index-in-loop-index .result)
-        (c .loop-index-test .taken) (c .index-elements-index .is) (c .index-elements-index-in-loop-index .is) (subst (After (g .E·StrictOrder .before) (c .args .elements .now)) here up))),
+          (c .is-before .ensures .1 (before-from (g .E·StrictOrder .before) (c .args .elements .now) (c .loop-index .index) (c .index-elements-index .result) (c .index-elements-index-in-loop-index .result)
+          (c .loop-index-test .taken) (c .index-elements-index .is) (c .index-elements-index-in-loop-index .is) (subst (After (g .E·StrictOrder .before) (c .args .elements .now)) here up))),
     )

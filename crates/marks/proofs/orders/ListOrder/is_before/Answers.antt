@@ -1,5 +1,4 @@
-use mathlib.Core.Path.{_≡_, sym, ap, _∙_, subst}
-use Rattle.std.specs.Orderings.{Decides}
+use mathlib.Core.Path.{sym, _∙_, subst}
 use Rattle.std.proofs.shelf.Ways.{decides-at}
 use Rattle.marks.specs.Numbers.{bit-of}
 use Rattle.marks.specs.Sets.{has, Lowest}

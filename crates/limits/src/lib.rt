@@ -22,3 +22,4 @@ pub use size::SizeLimit;
 pub use weight::Weight;
 pub use weight::WeightAllows;
 pub use weight::WeightLimit;
+pub use weight::Weights;

@@ -7,10 +7,13 @@ use crate::limit::Allows;
 use crate::limit::Limit;
 use marks::MarkSet;
 
+/// The weights of the 32 marks, that of mark i at i - 1.
+pub type Weights = [u16; 32];
+
 /// Allows sets whose marks weigh at most a cap together.
 #[derive(Clone, Copy)]
 pub struct Weight {
-    weights: [u16; 32],
+    weights: Weights,
     cap: u32,
 }
 
@@ -29,8 +32,8 @@ fn weigh(weights: &[u16], set: MarkSet) -> u64
 }
 
 impl Weight {
-    /// The limit of this cap, where the weight of mark i stands at i - 1.
-    pub fn new(weights: [u16; 32], cap: u32) -> Weight
+    /// The limit of this cap.
+    pub fn new(weights: Weights, cap: u32) -> Weight
         ensures { λ r. ⌜ r ≡ record { weights = weights; cap = cap } ⌝ }
     {
         Weight { weights, cap }

@@ -75,7 +75,7 @@ fn spills(words: &[u64], count: u32, bit: usize) -> bool
     requires { ⌜ count ≤ most-charges ⌝ ∗ ⌜ bit * words-per-mark count + words-per-mark count ≤ length (now words) ⌝ }
     ensures { λ r. ⌜ r ≡ not (eqb (past-count (now (words .entry)) count bit) no-marks) ⌝ }
 {
-    let used = count % 64;
+    let used = count as usize % WORD_BITS;
     let per = words_per_mark(count);
     used != 0 && words[bit * per + per - 1] >> used != 0
 }

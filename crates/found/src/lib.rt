@@ -1,0 +1,9 @@
+// What is found: records and printed lines.
+pub mod reading;
+pub mod record;
+
+pub use reading::RecordOrder;
+pub use reading::read_back;
+pub use record::RECORD_BYTES;
+pub use record::Record;
+pub use record::RecordBytes;

@@ -1,12 +1,10 @@
 -- Bytes and numbers, both ways.
-use mathlib.Core.Path.{_≡_, refl, ap, _∙_}
-use mathlib.Core.List.{List}
+use mathlib.Core.Path.{_≡_, ap, _∙_}
 use Prim.Native.Nat.{ℕ, _+_, _*_, _/_, _%_, _^_, _<_}
 use native.Mathlib.Omega.{arith}
 use lib.Pow.{shr-shr}
-use Rattle.marks.specs.declared.sets.MarkSet.{MarkSet}
 use Rattle.found.specs.declared.record.Record.{Record}
-use Rattle.found.specs.Records.{four-bytes, eight-bytes, record-bytes, record-at, four-at, eight-at}
+use Rattle.found.specs.Records.{record-bytes, record-at, four-at, eight-at}
 
 pub four-back : (n : ℕ) → n < 2 ^ 32 → n % 256 + n / 256 % 256 * 256 + n / 65536 % 256 * 65536 + n / 16777216 % 256 * 16777216 ≡ n
 four-back n h =
@@ -18,7 +16,7 @@ four-back n h =
 
 pub eight-back : (n : ℕ) → n < 2 ^ 64
     → n % 256 + n / 256 % 256 * 256 + n / 65536 % 256 * 65536 + n / 16777216 % 256 * 16777216
-      + n / 4294967296 % 256 * 4294967296 + n / 1099511627776 % 256 * 1099511627776 + n / 281474976710656 % 256 * 281474976710656 + n / 72057594037927936 % 256 * 72057594037927936 ≡ n
+    + n / 4294967296 % 256 * 4294967296 + n / 1099511627776 % 256 * 1099511627776 + n / 281474976710656 % 256 * 281474976710656 + n / 72057594037927936 % 256 * 72057594037927936 ≡ n
 eight-back n h =
     let a : n / 256 / 256 ≡ n / 65536 = shr-shr n 8 8 in
     let b : n / 65536 / 256 ≡ n / 16777216 = shr-shr n 16 8 in

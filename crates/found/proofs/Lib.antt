@@ -1,2 +1,4 @@
 pub mod Laying
+pub mod Marked
 pub mod ReadBack
+pub mod Writing

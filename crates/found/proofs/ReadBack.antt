@@ -1,13 +1,12 @@
 -- Records that are read back: their order, and what memory holds.
-use mathlib.Core.Path.{_≡_, refl, sym, ap, ap₂, _∙_, subst}
-use mathlib.Core.Bool.{Bool, true, false, not, _&&_, cond}
-use mathlib.Core.List.{List, map, _++_}
+use mathlib.Core.Path.{_≡_, sym, ap, _∙_, subst}
+use mathlib.Core.Bool.{true, false}
+use mathlib.Core.List.{List, _++_}
 use mathlib.Core.Logic.{_⊎_, inl, inr, ⊎-elim}
 use Prim.Native.Nat.{ℕ, _+_, _-_, _*_, _/_, _%_, _^_, _≤_, _<_}
 use native.Mathlib.Omega.{arith}
 use lib.Bits.{bitXor, xor-lt}
 use lib.Count.{trailingZeros, trailing-of-zero}
-use lib.Dec.{eqb, ltb, leb}
 use lib.ListN.{length, getD, take, drop}
 use Rattle.std.specs.Iters.{counting}
 use Rattle.std.specs.Orderings.{Decides}
@@ -17,7 +16,7 @@ use Rattle.std.proofs.shelf.Counted.{length-map-counting, getD-map-counting}
 use Rattle.std.proofs.shelf.Lists.{getD-past, getD-take, getD-drop, getD-default, length-take, length-drop, length-append, getD-append-left, getD-append-right, ext-getD}
 use Rattle.std.proofs.shelf.Tests.{cases-eq, cases-lt, cases-bool, both-ways, eq-eqb, ne-eqb, lt-ltb, le-ltb, le-leb, lt-leb}
 use Rattle.marks.specs.declared.refusal.Reason.the-variants.{Ragged, NoPlace, OutOfOrder}
-use Rattle.marks.specs.Orders.{Before, After, Rising, FirstUnordered}
+use Rattle.marks.specs.Orders.{Before, After, FirstUnordered}
 use Rattle.marks.specs.Places.{first-place}
 use Rattle.marks.specs.Refusals.{unplaced, placed-at}
 use Rattle.marks.specs.Sets.{has}
@@ -125,8 +124,8 @@ module _ (bytes : List ℕ) (whole : length bytes % record-length ≡ 0) where
           elim (cases-lt k (length bytes / record-length)) [
             | inl l ↦ front k l ∙ sym (getD-append-left (found-records bytes) (drop (length bytes / record-length) old) no-record k (omega (arith, found-length bytes)) ∙ found-at bytes k l)
             | inr l ↦ (let e : length bytes / record-length + (k - length bytes / record-length) ≡ k = omega arith in
-              rest k l ∙ sym (getD-append-right (found-records bytes) (drop (length bytes / record-length) old) (length bytes / record-length) k no-record (found-length bytes) l
-              ∙ getD-drop (length bytes / record-length) old (k - length bytes / record-length) no-record ∙ ap (λ i. getD old i no-record) e))
+                rest k l ∙ sym (getD-append-right (found-records bytes) (drop (length bytes / record-length) old) (length bytes / record-length) k no-record (found-length bytes) l
+                ∙ getD-drop (length bytes / record-length) old (k - length bytes / record-length) no-record ∙ ap (λ i. getD old i no-record) e))
           ]
 
 -- the records stand in front

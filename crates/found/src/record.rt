@@ -14,7 +14,7 @@ use marks::Refusal;
 pub const RECORD_BYTES: usize = 24;
 
 /// The bytes of a record: set (4), support (4), ordinal (8) and opened (8), each low byte first.
-pub type RecordBytes = [u8; 24];
+pub type RecordBytes = [u8; RECORD_BYTES];
 
 /// A set that was found, its support, its place in the list, and how many nodes had been opened.
 #[derive(Clone, Copy)]
@@ -36,8 +36,30 @@ impl Record {
         let c = self.ordinal.to_le_bytes();
         let d = self.opened.to_le_bytes();
         [
-            a[0], a[1], a[2], a[3], b[0], b[1], b[2], b[3], c[0], c[1], c[2], c[3], c[4], c[5], c[6], c[7], d[0], d[1], d[2],
-            d[3], d[4], d[5], d[6], d[7],
+            a[0],
+            a[1],
+            a[2],
+            a[3],
+            b[0],
+            b[1],
+            b[2],
+            b[3],
+            c[0],
+            c[1],
+            c[2],
+            c[3],
+            c[4],
+            c[5],
+            c[6],
+            c[7],
+            d[0],
+            d[1],
+            d[2],
+            d[3],
+            d[4],
+            d[5],
+            d[6],
+            d[7],
         ]
     }
 

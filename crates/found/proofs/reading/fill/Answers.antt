@@ -12,7 +12,7 @@ loop-index-again c =
     let i = c .loop-index .index in
     let made = c .record-at .result in (
       below-more _ _
-        (λ k h. let ne : k ≢ i = omega arith in getD-set-other memory i k made no-record ne ∙ c .loop-index .inv .0 k h)
-        (getD-set-same memory i made no-record (omega (arith, c .loop-index .kept .memory, c .pre .1)) ∙ c .record-at .ensures),
+          (λ k h. let ne : k ≢ i = omega arith in getD-set-other memory i k made no-record ne ∙ c .loop-index .inv .0 k h)
+          (getD-set-same memory i made no-record (omega (arith, c .loop-index .kept .memory, c .pre .1)) ∙ c .record-at .ensures),
       λ k h. let ne : k ≢ i = omega arith in getD-set-other memory i k made no-record ne ∙ c .loop-index .inv .1 k (omega arith),
     )

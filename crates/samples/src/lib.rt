@@ -12,6 +12,10 @@ mod numbers;
 mod packed;
 pub mod piles;
 #[cfg(test)]
+mod printed;
+#[cfg(test)]
+mod records;
+#[cfg(test)]
 mod sets;
 pub mod within;
 

@@ -77,6 +77,7 @@ fn put_marks(out: &mut [u8], set: MarkSet) -> Option<usize>
     Some(at)
 }
 
+// Writes the line of a found set.
 fn put_line(out: &mut [u8], set: MarkSet, support: u64) -> Option<usize>
     ensures { λ r. ⌜ Put (now (out .entry)) (now (out .exit)) 0 (line-text (set .bits) support) r ⌝ }
 {
@@ -85,6 +86,7 @@ fn put_line(out: &mut [u8], set: MarkSet, support: u64) -> Option<usize>
     put_text(out, end, b")\n")
 }
 
+// Writes the line of a refusal.
 fn put_fault(out: &mut [u8], number: u64, line: u64, column: u64) -> Option<usize>
     ensures { λ r. ⌜ Put (now (out .entry)) (now (out .exit)) 0 (fault-text number line column) r ⌝ }
 {
@@ -94,6 +96,7 @@ fn put_fault(out: &mut [u8], number: u64, line: u64, column: u64) -> Option<usiz
     put_text(out, end, b"\n")
 }
 
+// Writes the last line of a list.
 fn put_end(out: &mut [u8], sets: u64, opened: u64) -> Option<usize>
     ensures { λ r. ⌜ Put (now (out .entry)) (now (out .exit)) 0 (end-text sets opened) r ⌝ }
 {

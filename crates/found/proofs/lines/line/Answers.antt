@@ -5,9 +5,6 @@ use Rattle.found.proofs.Writing.{written-front}
 use Rattle.found.proofs.Marked.{line-short}
 use Rattle.found.proofs.lines.line.Needs as need
 
-pub unreachable-requires : need.unreachable-requires
-unreachable-requires c κs = omega (arith, c .in-rest .ensures tt, line-short (c .args .set .bits) (c .from .result) (omega (arith, c .from .ensures)))
-
 pub returns : need.returns
 returns c =
     let text = ap (line-text (c .args .set .bits)) (c .from .ensures) in
@@ -15,3 +12,6 @@ returns c =
       answer = subst (λ t. HandedOut t (c .args .memory .now) (c .hand-out .last .memory) (c .hand-out .result)) (written-front (c .in-Some .ensures tt) ∙ text) (c .hand-out .ensures .answer);
       kept = c .hand-out .ensures .kept;
     }
+
+pub unreachable-requires : need.unreachable-requires
+unreachable-requires c κs = omega (arith, c .in-rest .ensures tt, line-short (c .args .set .bits) (c .from .result) (omega (arith, c .from .ensures)))

@@ -25,14 +25,14 @@ use Rattle.marks.proofs.Places.{first-number-some, first-number-none}
 use Rattle.marks.proofs.SetOrder.{before-decided, same-undecided}
 use Rattle.marks.proofs.Sizes.{trailing-lowest}
 use Rattle.found.specs.declared.record.Record.{Record}
-use Rattle.found.specs.Records.{record-length, record-at, found-records, comes-before, no-record, unordered, read-refusal, read-memory}
+use Rattle.found.specs.Records.{record-length, record-at, found-records, comes-before, TellsListOrder, no-record, unordered, read-refusal, read-memory}
 
 -- ---- the order
 
 abbrev pub RecordBefore : Record → Record → Type 0
 RecordBefore p q = Before (p .set .bits) (q .set .bits)
 
-pub comes-before-decides : (x y : ℕ) → x < 2 ^ 32 → y < 2 ^ 32 → Decides (comes-before x y) (Before x y)
+pub comes-before-decides : TellsListOrder
 comes-before-decides x y p q = ⊎-elim same (λ n. before-decided x y (trailingZeros 32 (bitXor x y)) (trailing-lowest 32 (bitXor x y) (omega arith) (xor-lt 32 x y p q))) (cases-eq (bitXor x y) 0)
   where
     same : bitXor x y ≡ 0 → Decides (comes-before x y) (Before x y)

@@ -1,16 +1,18 @@
 -- Found records: how they lie in bytes, and which records bytes hold.
 use mathlib.Core.Bool.{Bool, not, _&&_, cond}
 use mathlib.Core.List.{List, [], _∷_, _++_, map}
-use Prim.Native.Nat.{ℕ, _+_, _-_, _*_, _/_, _%_}
+use Prim.Native.Nat.{ℕ, _+_, _-_, _*_, _/_, _%_, _^_, _<_}
 use lib.Count.{trailingZeros}
 use lib.Dec.{eqb, ltb, leb}
 use lib.ListN.{length, getD, drop}
 use Rattle.std.specs.Iters.{counting}
 use Rattle.std.specs.Options.{mapped}
+use Rattle.std.specs.Orderings.{Decides}
 use Rattle.std.specs.declared.option.Option.{Option}
 use Rattle.marks.specs.declared.refusal.Reason.the-variants.{ShortSlot, Ragged, NoPlace, OutOfOrder}
 use Rattle.marks.specs.declared.refusal.Refusal.{Refusal}
 use Rattle.marks.specs.Numbers.{most-marks}
+use Rattle.marks.specs.Orders.{Before}
 use Rattle.marks.specs.Places.{first-place}
 use Rattle.marks.specs.Refusals.{unplaced, placed-at, due-if, first-due}
 use Rattle.marks.specs.Sets.{has, differing}
@@ -61,6 +63,10 @@ slot-refusal size = due-if (ltb size record-length) (unplaced ShortSlot)
 -- x holds the lowest mark on which the sets x and y differ: the list order, as a test
 abbrev pub comes-before : ℕ → ℕ → Bool
 comes-before x y = has x (trailingZeros most-marks (differing x y))
+
+-- the test tells exactly which of two sets comes before the other in the list order
+abbrev pub TellsListOrder : Type 0
+TellsListOrder = (x y : ℕ) → x < 2 ^ most-marks → y < 2 ^ most-marks → Decides (comes-before x y) (Before x y)
 
 -- what stands past the end of a list
 abbrev pub no-record : Record

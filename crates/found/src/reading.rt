@@ -4,7 +4,7 @@ ghost use Prim.Native.Nat.{ℕ, _+_, _*_, _/_, _<_, _≤_};
 ghost use lib.ListN.{length, getD};
 ghost use Rattle.marks.specs.Orders.{Before};
 ghost use Rattle.marks.specs.Refusals.{Answers};
-ghost use Rattle.found.specs.Records.{record-length, four-at, eight-at, record-at, no-record, read-refusal, read-memory};
+ghost use Rattle.found.specs.Records.{record-length, four-at, eight-at, record-at, no-record, read-refusal, read-memory, TellsListOrder};
 use crate::record::RECORD_BYTES;
 use crate::record::Record;
 use marks::ListOrder;
@@ -78,6 +78,7 @@ fn fill(bytes: &[u8], memory: &mut [Record], count: usize)
 pub fn read_back(bytes: &[u8], memory: &mut [Record]) -> Result<usize, Refusal>
     ensures answer { λ r. ⌜ Answers (read-refusal (now (bytes .entry)) (length (now (memory .entry)))) (λ n. n ≡ length (now (bytes .entry)) / record-length) r ⌝ }
     ensures memory { λ _. ⌜ now (memory .exit) ≡ read-memory (now (bytes .entry)) (now (memory .entry)) ⌝ }
+    ensures order { λ _. ⌜ TellsListOrder ⌝ }
 {
     if bytes.len() % RECORD_BYTES != 0 {
         return Err(Refusal::unplaced(Reason::Ragged));

@@ -6,7 +6,7 @@ use Rattle.std.specs.declared.option.Option.the-variants.{Some, None}
 use Rattle.marks.specs.declared.refusal.Refusal.{Refusal}
 use Rattle.marks.specs.Orders.{FirstUnordered}
 use Rattle.found.specs.Records.{record-length, record-at, found-records, no-record}
-use Rattle.found.proofs.ReadBack.{RecordBefore, kept-ragged, kept-short, filled, front-is, judged, refused-ragged, refused-place, refused-order, accepted}
+use Rattle.found.proofs.ReadBack.{RecordBefore, comes-before-decides, kept-ragged, kept-short, filled, front-is, judged, refused-ragged, refused-place, refused-order, accepted}
 use Rattle.found.proofs.reading.read_back.Needs as need
 
 pub returns-then-bytes-ne0 : need.returns-then-bytes-ne0
@@ -14,6 +14,7 @@ returns-then-bytes-ne0 c =
     record {
       answer = refused-ragged (c .args .bytes .now) (length (c .args .memory .now)) (c .if-bytes-ne0 .taken) ∙ ap (λ (e : Refusal). Some e) (sym (c .unplaced .ensures));
       memory = kept-ragged (c .args .bytes .now) (c .args .memory .now) (c .if-bytes-ne0 .taken);
+      order = comes-before-decides;
     }
 
 pub returns-then-count-memory : need.returns-then-count-memory
@@ -21,6 +22,7 @@ returns-then-count-memory c =
     record {
       answer = refused-place (c .args .bytes .now) (length (c .args .memory .now)) (c .if-bytes-ne0 .left) (c .if-count-memory .taken) ∙ ap (λ (e : Refusal). Some e) (sym (c .unplaced-then-count-memory .ensures));
       memory = kept-short (c .args .bytes .now) (c .if-bytes-ne0 .left) (c .args .memory .now) (c .if-count-memory .taken);
+      order = comes-before-decides;
     }
 
 pub returns-in-Some : need.returns-in-Some
@@ -35,6 +37,7 @@ returns-in-Some c =
     record {
       answer = refused-order bytes (length (c .args .memory .now)) (c .if-bytes-ne0 .left) (c .if-count-memory .left) (c .in-Some .place) place ∙ ap (λ (e : Refusal). Some e) (sym (c .at .ensures));
       memory = filled bytes (c .if-bytes-ne0 .left) (c .args .memory .now) new (c .if-count-memory .left) (omega (arith, c .fill .kept .memory)) (c .fill .ensures .front) (c .fill .ensures .rest);
+      order = comes-before-decides;
     }
 
 pub returns-in-None : need.returns-in-None
@@ -49,4 +52,5 @@ returns-in-None c =
     record {
       answer = (accepted bytes (length (c .args .memory .now)) (c .if-bytes-ne0 .left) (c .if-count-memory .left) place, refl);
       memory = filled bytes (c .if-bytes-ne0 .left) (c .args .memory .now) new (c .if-count-memory .left) (omega (arith, c .fill .kept .memory)) (c .fill .ensures .front) (c .fill .ensures .rest);
+      order = comes-before-decides;
     }

@@ -1,4 +1,6 @@
 // What everything else speaks in: marks, charges, widths and supports; sets of marks; refusals.
+#![tactic(auto)]
+
 pub mod numbers;
 pub mod orders;
 pub mod refusal;

@@ -1,4 +1,6 @@
 // Finding closed sets: the tally of a set, narrowing a node, and the finder that hands out the list.
+#![tactic(auto)]
+
 pub mod finder;
 pub mod narrowing;
 pub mod step;

@@ -1,4 +1,6 @@
 // What is found: records and printed lines.
+#![tactic(auto)]
+
 pub mod lines;
 pub mod reading;
 pub mod record;

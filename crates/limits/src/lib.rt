@@ -1,4 +1,6 @@
 // House limits on which sets are listed.
+#![tactic(auto)]
+
 pub mod bars;
 pub mod both;
 pub mod limit;

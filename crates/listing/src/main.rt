@@ -1,4 +1,6 @@
 // Prints, mark by mark, how many of a few charges hold the mark.
+#![tactic(auto)]
+
 ghost use Rattle.std.specs.Prelude.{◌≡◌, MatchResult};
 ghost use Rattle.tables.specs.Packed.{packed_meaning};
 ghost use Rattle.listing.specs.Sample.{sample_charges};

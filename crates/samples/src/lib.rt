@@ -1,4 +1,6 @@
 // Worked examples, and cases at the edges, run as tests.
+#![tactic(auto)]
+
 #[cfg(test)]
 mod columns;
 #[cfg(test)]

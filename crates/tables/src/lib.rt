@@ -1,4 +1,6 @@
 // Tables of charges: what a table means, and what stands for one.
+#![tactic(auto)]
+
 pub mod columns;
 pub mod holding;
 pub mod layers;

@@ -19,8 +19,8 @@ loop-next-preserved g c =
     let old = c.loop-next.excluded.bits in
     let bit = bit_of c.in-Some.mark.number in
     let before = subst (λ o. Gathered test n o old) c.in-Some.is c.loop-next.invariant in
-    gathered_more test n c.in-Some.mark old before c.next-next.result c.next-next.ensures c.with-if-excluded.result.bits
-    (c.with-if-excluded.ensures ∙ ap (λ held. cond (not held) (with_bit old bit) old) (c.is-wanted.ensures ∙ ap wanted c.«with».ensures))
+    gathered_more test n c.in-Some.mark old before c.next-next.result c.next-next.ensures c.with_if-excluded.result.bits
+    (c.with_if-excluded.ensures ∙ ap (λ held. cond (not held) (with_bit old bit) old) (c.is_wanted.ensures ∙ ap wanted c.«with».ensures))
 
 pub returns : goal.returns
 returns g c =

@@ -7,8 +7,8 @@ use Rattle.found.proofs.lines.end_line.Goals as goal
 pub returns : goal.returns
 returns c =
     record {
-      answer = subst (λ t. HandedOut t c.args.memory.now c.hand-out.new.memory c.hand-out.result) (written_front c.in-Some.ensures) c.hand-out.ensures.answer;
-      kept = c.hand-out.ensures.kept;
+      answer = subst (λ t. HandedOut t c.args.memory.now c.hand_out.new.memory c.hand_out.result) (written_front c.in-Some.ensures) c.hand_out.ensures.answer;
+      kept = c.hand_out.ensures.kept;
     }
 
 pub unreachable-requires : goal.unreachable-requires

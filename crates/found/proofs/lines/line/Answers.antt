@@ -8,8 +8,8 @@ pub returns : goal.returns
 returns c =
     let text = ap (line_text c.args.set.bits) c.from.ensures in
     record {
-      answer = subst (λ t. HandedOut t c.args.memory.now c.hand-out.new.memory c.hand-out.result) (written_front c.in-Some.ensures ∙ text) c.hand-out.ensures.answer;
-      kept = c.hand-out.ensures.kept;
+      answer = subst (λ t. HandedOut t c.args.memory.now c.hand_out.new.memory c.hand_out.result) (written_front c.in-Some.ensures ∙ text) c.hand_out.ensures.answer;
+      kept = c.hand_out.ensures.kept;
     }
 
 pub unreachable-requires : goal.unreachable-requires

@@ -23,13 +23,13 @@ returns-in-err-end c =
     let b = c.args.bit in
     let held : bit_and (c.args.set.bits / 2 ^ b) 1 ≡ 1 = sym (ap (λ s. bit_and (s / 2 ^ b) 1) c.bits.ensures) ∙ c.if-bits-bit-ne1.false in
     let number : c.from.result + 1 ≡ b + 1 = omega (arith, c.from.ensures) in
-    subst (λ text. Put c.args.out.now c.put-number.new.out c.args.at text c.from-residual.result) (ap (λ n. decimal n ++ codes " ") number ∙ having c.args.set.bits b held)
-    (put_short c.args.out.now c.put-number.new.out c.args.at (decimal (c.from.result + 1)) (codes " ") c.from-residual.result c.from-residual.ensures c.in-err-end.ensures)
+    subst (λ text. Put c.args.out.now c.put_number.new.out c.args.at text c.from_residual.result) (ap (λ n. decimal n ++ codes " ") number ∙ having c.args.set.bits b held)
+    (put_short c.args.out.now c.put_number.new.out c.args.at (decimal (c.from.result + 1)) (codes " ") c.from_residual.result c.from_residual.ensures c.in-err-end.ensures)
 
 pub returns : goal.returns
 returns c =
     let b = c.args.bit in
     let held : bit_and (c.args.set.bits / 2 ^ b) 1 ≡ 1 = sym (ap (λ s. bit_and (s / 2 ^ b) 1) c.bits.ensures) ∙ c.if-bits-bit-ne1.false in
     let number : c.from.result + 1 ≡ b + 1 = omega (arith, c.from.ensures) in
-    subst (λ text. Put c.args.out.now c.put-text.new.out c.args.at text c.put-text.result) (ap (λ n. decimal n ++ codes " ") number ∙ having c.args.set.bits b held)
-    (put_then c.put-text.new.out (codes " ") c.in-ok-end.ensures c.put-text.result c.put-text.ensures)
+    subst (λ text. Put c.args.out.now c.put_text.new.out c.args.at text c.put_text.result) (ap (λ n. decimal n ++ codes " ") number ∙ having c.args.set.bits b held)
+    (put_then c.put_text.new.out (codes " ") c.in-ok-end.ensures c.put_text.result c.put_text.ensures)

@@ -12,6 +12,6 @@ returns c =
       ends = refl;
       room = omega arith;
       is =
-          put_mid-paste at (at + length text - at) old c.copy-from-slice.new.self text (length text) c.copy-from-slice.ensures.after (omega arith) refl
+          put_mid-paste at (at + length text - at) old c.copy_from_slice.new.self text (length text) c.copy_from_slice.ensures.after (omega arith) refl
           ∙ paste_all old at text (length text) refl;
     }

@@ -16,6 +16,6 @@ unfolding record_at
 returns c =
     let bytes = c.args.bytes.now in
     let at = c.args.at in
-    made (record { set = c.from-bits.result; support = c.four-at-2.result; ordinal = c.eight_at.result; opened = c.eight-at-2.result })
+    made (record { set = c.from_bits.result; support = c.four_at-2.result; ordinal = c.eight_at.result; opened = c.eight_at-2.result })
     (four_at bytes at) (four_at bytes (at + 4)) (eight_at bytes (at + 8)) (eight_at bytes (at + 16))
-    (c.from-bits.ensures ∙ c.four_at.ensures) c.four-at-2.ensures c.eight_at.ensures c.eight-at-2.ensures
+    (c.from_bits.ensures ∙ c.four_at.ensures) c.four_at-2.ensures c.eight_at.ensures c.eight_at-2.ensures

@@ -7,7 +7,7 @@ use Rattle.limits.proofs.bars.first_misplaced.Goals as goal
 pub loop-index-preserved : goal.loop-index-preserved
 loop-index-preserved c =
     below_more _ _ c.loop-index.invariant
-    (placed c.args.pairs.now c.loop-index.index (λ some. c.ordered-front-ordered.ensures.rising c.loop-index.index some c.loop-index-test.true) c.if-pairs-index.false)
+    (placed c.args.pairs.now c.loop-index.index (λ some. c.ordered_front-ordered.ensures.rising c.loop-index.index some c.loop-index-test.true) c.if-pairs-index.false)
 
 pub returns-then-pairs-index : goal.returns-then-pairs-index
 returns-then-pairs-index c =
@@ -19,8 +19,8 @@ returns-then-ordered-pairs c = sym (first_number_none (misplaced c.args.pairs.no
 
 pub returns : goal.returns
 returns c =
-    let ordered = c.ordered-front-ordered.result in
-    let stops = c.ordered-front-ordered.ensures.stops (omega (arith, c.ordered-front-ordered.ensures.within)) in
-    sym (first_number_some (misplaced c.args.pairs.now) (length c.args.pairs.now) ordered (omega (arith, c.ordered-front-ordered.ensures.within))
-    (unordered c.args.pairs.now ordered stops.0 (omega (arith, c.ordered-front-ordered.ensures.within)) stops.1)
+    let ordered = c.ordered_front-ordered.result in
+    let stops = c.ordered_front-ordered.ensures.stops (omega (arith, c.ordered_front-ordered.ensures.within)) in
+    sym (first_number_some (misplaced c.args.pairs.now) (length c.args.pairs.now) ordered (omega (arith, c.ordered_front-ordered.ensures.within))
+    (unordered c.args.pairs.now ordered stops.0 (omega (arith, c.ordered_front-ordered.ensures.within)) stops.1)
     (λ k h. c.loop-index.invariant k (omega arith)))

@@ -16,8 +16,8 @@ loop-next-preserved c =
     let n = c.args.width.number in
     let bit = bit_of c.in-Some.mark.number in
     let before = subst (λ o. Gathered test n o c.loop-next.row.bits) c.in-Some.is c.loop-next.invariant in
-    gathered_more test n c.in-Some.mark c.loop-next.row.bits before c.next-next.result c.next-next.ensures c.with-if-row.result.bits
-    (c.with-if-row.ensures ∙ ap (λ held. cond held (with_bit c.loop-next.row.bits bit) c.loop-next.row.bits) c.column-holds.ensures)
+    gathered_more test n c.in-Some.mark c.loop-next.row.bits before c.next-next.result c.next-next.ensures c.with_if-row.result.bits
+    (c.with_if-row.ensures ∙ ap (λ held. cond held (with_bit c.loop-next.row.bits bit) c.loop-next.row.bits) c.column_holds.ensures)
 
 pub returns : goal.returns
 returns c =

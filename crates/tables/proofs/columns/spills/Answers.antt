@@ -10,7 +10,7 @@ returns-then-used-ne0 c =
     let words = c.args.words.now in
     let m = c.args.count in
     let last : ℕ → ℕ = λ per. get_or words (c.args.bit * per + per - 1) 0 in
-    ap (λ per. not (eqb (last per / 2 ^ (m % word_bits)) no_marks)) c.words-per-mark-per.ensures.value
+    ap (λ per. not (eqb (last per / 2 ^ (m % word_bits)) no_marks)) c.words_per_mark-per.ensures.value
     ∙ ap (λ past. not (eqb past no_marks)) (sym (past_is words m c.args.bit c.if-used-ne0.true (c.type-inv.words (c.args.bit * words_per_mark m + words_per_mark m - 1)).fits))
 
 pub returns-else-used-ne0 : goal.returns-else-used-ne0

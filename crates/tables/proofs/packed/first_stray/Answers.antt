@@ -8,13 +8,13 @@ use Rattle.tables.proofs.packed.first_stray.Goals as goal
 pub loop-index-preserved : goal.loop-index-preserved
 loop-index-preserved c =
     below_more _ _ c.loop-index.invariant
-    (ap not (ap (λ x. part_of x c.args.all.bits) (sym c.row-at.ensures) ∙ sym c.is-part-of.ensures ∙ c.if-not-is-part-of.false))
+    (ap not (ap (λ x. part_of x c.args.all.bits) (sym c.row_at.ensures) ∙ sym c.is_part_of.ensures ∙ c.if-not-is_part_of.false))
 
-pub returns-then-not-is-part-of : goal.returns-then-not-is-part-of
-returns-then-not-is-part-of c =
+pub returns-then-not-is_part_of : goal.returns-then-not-is_part_of
+returns-then-not-is_part_of c =
     let rows = packed_rows c.args.bytes.now in
     sym (first_place_some (strays c.args.all.bits) 0 rows c.loop-index.index (omega (arith, packed_count c.args.bytes.now))
-    (ap not (ap (λ x. part_of x c.args.all.bits) (sym c.row-at.ensures) ∙ sym c.is-part-of.ensures ∙ c.if-not-is-part-of.true))
+    (ap not (ap (λ x. part_of x c.args.all.bits) (sym c.row_at.ensures) ∙ sym c.is_part_of.ensures ∙ c.if-not-is_part_of.true))
     c.loop-index.invariant)
 
 pub returns : goal.returns

@@ -3,4 +3,4 @@ use Rattle.tables.proofs.Bytes.{packed_row}
 use Rattle.tables.proofs.packed.row_at.Goals as goal
 
 pub returns : goal.returns
-returns c = c.from-bits.ensures ∙ c.from-le-bytes.ensures ∙ packed_row c.args.bytes.now c.args.index c.requires
+returns c = c.from_bits.ensures ∙ c.from_le_bytes.ensures ∙ packed_row c.args.bytes.now c.args.index c.requires

@@ -24,7 +24,7 @@ unreachable-requires g c =
     let small = (g.met.T.Table.proper c.args.self.now.table).wide.1 in
     let b = bit_of c.in-Some.mark.number in
     let low : Lowest (free_marks q.table.width node.ins.bits node.outs.bits) b =
-    subst (λ s. Lowest s b) (free_is _ _ _ _ node.ins.bits node.outs.bits c.free.ensures c.up-to-all.ensures c.width.ensures) c.in-Some.ensures in
+    subst (λ s. Lowest s b) (free_is _ _ _ _ node.ins.bits node.outs.bits c.free.ensures c.up_to-all.ensures c.width.ensures) c.in-Some.ensures in
     child_there q small node ready b (ready_free q small node ready b low) c.«with».result.bits c.«with».ensures c.open.result c.open.ensures.node c.in-default-open.is
 
 pub loop-mark-smaller : goal.loop-mark-smaller
@@ -35,7 +35,7 @@ loop-mark-smaller g c =
     let small = (g.met.T.Table.proper c.args.self.now.table).wide.1 in
     let b = bit_of c.in-Some.mark.number in
     let low : Lowest (free_marks q.table.width node.ins.bits node.outs.bits) b =
-    subst (λ s. Lowest s b) (free_is _ _ _ _ node.ins.bits node.outs.bits c.free.ensures c.up-to-all.ensures c.width.ensures) c.in-Some.ensures in
+    subst (λ s. Lowest s b) (free_is _ _ _ _ node.ins.bits node.outs.bits c.free.ensures c.up_to-all.ensures c.width.ensures) c.in-Some.ensures in
     let free = ready_free q small node ready b low in
     subst (λ (x : Node). size_of (free_marks q.table.width x.ins.bits x.outs.bits) < size_of (free_marks q.table.width node.ins.bits node.outs.bits))
     (sym (child_is q small node ready b free c.«with».result.bits c.«with».ensures c.open.result c.open.ensures.node c.in-Some-open.child c.in-Some-open.is))
@@ -49,7 +49,7 @@ loop-mark-preserved g c =
     let small = (g.met.T.Table.proper c.args.self.now.table).wide.1 in
     let b = bit_of c.in-Some.mark.number in
     let low : Lowest (free_marks q.table.width node.ins.bits node.outs.bits) b =
-    subst (λ s. Lowest s b) (free_is _ _ _ _ node.ins.bits node.outs.bits c.free.ensures c.up-to-all.ensures c.width.ensures) c.in-Some.ensures in
+    subst (λ s. Lowest s b) (free_is _ _ _ _ node.ins.bits node.outs.bits c.free.ensures c.up_to-all.ensures c.width.ensures) c.in-Some.ensures in
     let free = ready_free q small node ready b low in
     descending_more q small c.args.start c.args.turns.bits c.args.opened.now node c.loop-mark.turned.bits c.loop-mark.opened c.loop-mark.invariant b low
     c.in-Some-open.child c.with-turned.result.bits c.open.new.opened
@@ -62,4 +62,4 @@ returns g c =
     let node = c.loop-mark.node in
     descending_done q (g.met.T.Table.proper c.args.self.now.table).wide.1 c.args.start c.args.turns.bits c.args.opened.now node c.loop-mark.turned.bits
     c.loop-mark.opened c.loop-mark.invariant
-    (sym (free_is _ _ _ _ node.ins.bits node.outs.bits c.free.ensures c.up-to-all.ensures c.width.ensures) ∙ c.in-default.ensures)
+    (sym (free_is _ _ _ _ node.ins.bits node.outs.bits c.free.ensures c.up_to-all.ensures c.width.ensures) ∙ c.in-default.ensures)

@@ -7,10 +7,10 @@ pub returns-in-Some : goal.returns-in-Some
 returns-in-Some c =
     refused_range c.args.pairs.now c.in-Some.place (sym c.in-Some.ensures) ∙ ap (λ (e : Refusal). Some e) (sym c.at.ensures)
 
-pub returns-in-Some-first-misplaced : goal.returns-in-Some-first-misplaced
-returns-in-Some-first-misplaced c =
-    refused_pair c.args.pairs.now (sym c.in-default.ensures) c.in-Some-first-misplaced.place (sym c.in-Some-first-misplaced.ensures)
-    ∙ ap (λ (e : Refusal). Some e) (sym c.at-in-Some-first-misplaced.ensures)
+pub returns-in-Some-first_misplaced : goal.returns-in-Some-first_misplaced
+returns-in-Some-first_misplaced c =
+    refused_pair c.args.pairs.now (sym c.in-default.ensures) c.in-Some-first_misplaced.place (sym c.in-Some-first_misplaced.ensures)
+    ∙ ap (λ (e : Refusal). Some e) (sym c.at-in-Some-first_misplaced.ensures)
 
 pub returns : goal.returns
-returns c = (accepted c.args.pairs.now (sym c.in-default.ensures) (sym c.in-default-first-misplaced.ensures), refl)
+returns c = (accepted c.args.pairs.now (sym c.in-default.ensures) (sym c.in-default-first_misplaced.ensures), refl)

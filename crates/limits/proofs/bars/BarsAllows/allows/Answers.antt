@@ -4,4 +4,4 @@ use Rattle.limits.proofs.bars.BarsAllows.allows.Goals as goal
 
 pub returns : goal.returns
 unfolding unbarred
-returns c = ap not c.holds-one.ensures
+returns c = ap not c.holds_one.ensures

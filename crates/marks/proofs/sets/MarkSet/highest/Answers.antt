@@ -8,5 +8,5 @@ use Rattle.marks.proofs.sets.MarkSet.highest.Goals as goal
 pub returns : goal.returns
 returns c =
     let s = c.args.self.bits in
-    let e : most_marks - 1 - count_leading_zeros most_marks s ≡ bit_of c.at-bit.result.number = omega (arith, c.at-bit.ensures) in
+    let e : most_marks - 1 - count_leading_zeros most_marks s ≡ bit_of c.at_bit.result.number = omega (arith, c.at_bit.ensures) in
     subst (Highest s) e (leading_highest most_marks s (omega arith) (omega arith))

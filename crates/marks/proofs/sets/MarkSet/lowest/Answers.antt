@@ -5,11 +5,11 @@ use Rattle.marks.specs.Sets.{Lowest}
 use Rattle.marks.specs.Sizes.{trailing_lowest, trailing_below}
 use Rattle.marks.proofs.sets.MarkSet.lowest.Goals as goal
 
-pub at-bit-requires : goal.at-bit-requires
-at-bit-requires c = trailing_below most_marks c.args.self.bits (omega arith) (omega arith)
+pub at_bit-requires : goal.at_bit-requires
+at_bit-requires c = trailing_below most_marks c.args.self.bits (omega arith) (omega arith)
 
 pub returns : goal.returns
 returns c =
     let s = c.args.self.bits in
-    let e : count_trailing_zeros most_marks s ≡ bit_of c.at-bit.result.number = omega (arith, c.at-bit.ensures) in
+    let e : count_trailing_zeros most_marks s ≡ bit_of c.at_bit.result.number = omega (arith, c.at_bit.ensures) in
     subst (Lowest s) e (trailing_lowest most_marks s (omega arith) (omega arith))

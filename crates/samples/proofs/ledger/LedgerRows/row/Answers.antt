@@ -21,8 +21,8 @@ returns c =
     let rows = vec_items ledger.rows in
     let n = ledger.width.number in
     let inside : c.get-2.result - 1 < length rows = omega (arith, ledger.rows.ok.0, trimmed_count n rows) in
-    let row : c.from-bits.result.bits ≡ get_or rows (c.args.charge.number - 1) 0 =
-    c.from-bits.ensures ∙ c.index.ensures ∙ get_or_default rows (c.get-2.result - 1) c.index.result.now 0 inside ∙ ap (λ (k : ℕ). get_or rows (k - 1) 0) c.get-2.ensures.value in
-    let all : c.up-to.result.bits ≡ all_below (nearest_width n) =
-    c.up-to.ensures ∙ ap all_below (let e : n ≡ nearest_width n = omega (arith, ledger.width.range.0, ledger.width.range.1) in e) in
+    let row : c.from_bits.result.bits ≡ get_or rows (c.args.charge.number - 1) 0 =
+    c.from_bits.ensures ∙ c.index.ensures ∙ get_or_default rows (c.get-2.result - 1) c.index.result.now 0 inside ∙ ap (λ (k : ℕ). get_or rows (k - 1) 0) c.get-2.ensures.value in
+    let all : c.up_to.result.bits ≡ all_below (nearest_width n) =
+    c.up_to.ensures ∙ ap all_below (let e : n ≡ nearest_width n = omega (arith, ledger.width.range.0, ledger.width.range.1) in e) in
     c.intersection.ensures ∙ ap₂ both row all ∙ trimmed_read n rows c.args.charge.number (omega arith) (omega arith)

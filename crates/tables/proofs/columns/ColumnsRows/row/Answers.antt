@@ -12,8 +12,8 @@ returns-then-get-count c =
     c.empty.ensures
     ∙ sym (get_or_past (columns_meaning t.words.now t.width t.count).rows (c.args.charge.number - 1) 0 (omega (arith, c.count-count.ensures)))
 
-pub words-per-mark-requires : goal.words-per-mark-requires
-words-per-mark-requires c = let t = c.args.self.now in omega (arith, columns_count t.words.now t.width t.count)
+pub words_per_mark-requires : goal.words_per_mark-requires
+words_per_mark-requires c = let t = c.args.self.now in omega (arith, columns_count t.words.now t.width t.count)
 
 pub returns : goal.returns
 returns c =
@@ -23,7 +23,7 @@ returns c =
     let count = c.count-count.ensures ∙ columns_count words t.width t.count in
     let per = c.words_per_mark.ensures.value ∙ ap words_per_mark count in
     let wide = c.width.ensures ∙ columns_width words t.width t.count in
-    c.row-at.ensures ∙ ap (λ p. column_row words p c.width.result.number (c.get-2.result - 1)) per
+    c.row_at.ensures ∙ ap (λ p. column_row words p c.width.result.number (c.get-2.result - 1)) per
     ∙ ap (λ w. column_row words (words_per_mark (min t.count most_charges)) w (c.get-2.result - 1)) wide
     ∙ ap (λ n. column_row words (words_per_mark (min t.count most_charges)) (nearest_width t.width) (n - 1)) c.get-2.ensures.value
     ∙ sym (ap (λ rows. get_or rows k 0) (columns_rows words t.width t.count) ∙ column_at words (nearest_width t.width) (min t.count most_charges) k (omega (arith, count)))

@@ -10,7 +10,7 @@ use Rattle.tables.proofs.columns.turning.turn.Goals as goal
 pub returns-then-words-get : goal.returns-then-words-get
 returns-then-words-get g c =
     let m = g.T.Rows.meaning c.args.table.now in
-    let per = c.words-per-mark-per.ensures.value ∙ ap words_per_mark c.count-count.ensures in
+    let per = c.words_per_mark-per.ensures.value ∙ ap words_per_mark c.count-count.ensures in
     let size = ap₂ (λ n p. n * p) (c.get.ensures.value ∙ c.width-width.ensures) per in
     record {
       words = turn_refused m (length c.args.words.now) (λ e. c.if-words-get.true (e ∙ sym size)) ∙ ap (λ (e : Refusal). Some e) (sym c.unplaced.ensures);
@@ -22,7 +22,7 @@ loop-next-init g c =
     let m = g.T.Rows.meaning c.args.table.now in
     let per = words_per_mark (count_of m) in
     let size : length c.args.words.now ≡ m.width * per =
-    c.if-words-get.false ∙ ap₂ (λ n p. n * p) (c.get.ensures.value ∙ c.width-width.ensures) (c.words-per-mark-per.ensures.value ∙ ap words_per_mark c.count-count.ensures) in (
+    c.if-words-get.false ∙ ap₂ (λ n p. n * p) (c.get.ensures.value ∙ c.width-width.ensures) (c.words_per_mark-per.ensures.value ∙ ap words_per_mark c.count-count.ensures) in (
       first_among c.count-count.result c.first-next.result c.first-next.ensures,
       λ i h. c.fill.ensures.clones i 0 (omega (arith, size)) refl ∙ sym (ap (λ k. turned_word per (take k m.rows) i) (first_passed c.count-count.result c.first-next.result c.first-next.ensures) ∙ turned_none per m.rows i),
     )
@@ -39,11 +39,11 @@ loop-next-preserved g c =
     let behind = ap (passed count) c.in-Some.is in
     let then = next_passed count charge c.next-next.result before (omega (arith, c.count-count.ensures, (g.met.T.Table.proper c.args.table.now).few)) c.next-next.ensures in
     let size : length c.args.words.now ≡ m.width * per =
-    c.if-words-get.false ∙ ap₂ (λ n p. n * p) (c.get.ensures.value ∙ c.width-width.ensures) (c.words-per-mark-per.ensures.value ∙ ap words_per_mark c.count-count.ensures) in (
+    c.if-words-get.false ∙ ap₂ (λ n p. n * p) (c.get.ensures.value ∙ c.width-width.ensures) (c.words_per_mark-per.ensures.value ∙ ap words_per_mark c.count-count.ensures) in (
       next_among count charge c.next-next.result c.next-next.ensures,
       λ i h.
           c.put.ensures i (omega (arith, size, c.loop-next.auto.words, c.fill.ensures.len))
-          ∙ ap₂ (λ p r. put_word p k r i (get_or c.loop-next.words i 0)) (c.words-per-mark-per.ensures.value ∙ ap words_per_mark c.count-count.ensures) row
+          ∙ ap₂ (λ p r. put_word p k r i (get_or c.loop-next.words i 0)) (c.words_per_mark-per.ensures.value ∙ ap words_per_mark c.count-count.ensures) row
           ∙ ap (put_word per k (row_of m charge.number) i) (c.loop-next.invariant.1 i h ∙ ap (λ n. turned_word per (take n m.rows) i) behind)
           ∙ turned_more per m.rows k i ∙ ap (λ n. turned_word per (take n m.rows) i) (sym then),
     )
@@ -52,7 +52,7 @@ pub returns : goal.returns
 returns g c =
     let m = g.T.Rows.meaning c.args.table.now in
     let proper = g.met.T.Table.proper c.args.table.now in
-    let per = c.words-per-mark-per.ensures.value ∙ ap words_per_mark c.count-count.ensures in
+    let per = c.words_per_mark-per.ensures.value ∙ ap words_per_mark c.count-count.ensures in
     let size : length c.args.words.now ≡ m.width * words_per_mark (count_of m) =
     c.if-words-get.false ∙ ap₂ (λ n p. n * p) (c.get.ensures.value ∙ c.width-width.ensures) per in
     let done = ap (passed c.count-count.result) c.in-default.is ∙ c.count-count.ensures in

@@ -16,12 +16,12 @@ judged n r h = refused_if (outside n) (unplaced Range) (λ mark. mark.number ≡
 pub loop-index-preserved : goal.loop-index-preserved
 loop-index-preserved c =
     below_more _ _ c.loop-index.invariant
-    (sym (judged (get_or c.args.numbers.now c.loop-index.index 0) c.new.result c.new.ensures) ∙ sym c.is-err.ensures.value ∙ c.if-is-err.false)
+    (sym (judged (get_or c.args.numbers.now c.loop-index.index 0) c.new.result c.new.ensures) ∙ sym c.is_err.ensures.value ∙ c.if-is_err.false)
 
-pub returns-then-is-err : goal.returns-then-is-err
-returns-then-is-err c =
+pub returns-then-is_err : goal.returns-then-is_err
+returns-then-is_err c =
     sym (first_place_some outside 0 c.args.numbers.now c.loop-index.index (omega arith)
-    (sym (judged (get_or c.args.numbers.now c.loop-index.index 0) c.new.result c.new.ensures) ∙ sym c.is-err.ensures.value ∙ c.if-is-err.true)
+    (sym (judged (get_or c.args.numbers.now c.loop-index.index 0) c.new.result c.new.ensures) ∙ sym c.is_err.ensures.value ∙ c.if-is_err.true)
     c.loop-index.invariant)
 
 pub returns : goal.returns

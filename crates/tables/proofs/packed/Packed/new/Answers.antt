@@ -18,14 +18,14 @@ returns-then-bytes c =
 
 pub returns-in-Some : goal.returns-in-Some
 returns-in-Some c =
-    refused_stray c.args.bytes.now c.args.width.number c.if-bytes-ne0.false c.if-bytes.false c.in-Some.charge (ap (λ all. first_place (strays all) (packed_rows c.args.bytes.now)) (sym c.up-to.ensures) ∙ sym c.in-Some.ensures)
+    refused_stray c.args.bytes.now c.args.width.number c.if-bytes-ne0.false c.if-bytes.false c.in-Some.charge (ap (λ all. first_place (strays all) (packed_rows c.args.bytes.now)) (sym c.up_to.ensures) ∙ sym c.in-Some.ensures)
     ∙ ap (λ (e : Refusal). Some e) (sym c.at.ensures)
 
 pub returns : goal.returns
 returns c =
     let bytes = c.args.bytes.now in
     let n = c.args.width.number in
-    let none = ap (λ all. first_place (strays all) (packed_rows bytes)) (sym c.up-to.ensures) ∙ sym c.in-default.ensures in (
+    let none = ap (λ all. first_place (strays all) (packed_rows bytes)) (sym c.up_to.ensures) ∙ sym c.in-default.ensures in (
       accepted bytes n c.if-bytes-ne0.false c.if-bytes.false none,
       ap (λ w. trimmed w (packed_rows bytes)) c.get.ensures.value
           ∙ trimmed_same n (packed_rows bytes) (packed_proper bytes n c.args.width.range c.if-bytes.false none),

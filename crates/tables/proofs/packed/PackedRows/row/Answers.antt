@@ -9,8 +9,8 @@ pub returns-then-get-count : goal.returns-then-get-count
 returns-then-get-count c =
     let p = c.args.self.now in c.empty.ensures ∙ sym (trimmed_beyond p.width (packed_rows p.bytes.now) c.args.charge.number (omega arith))
 
-pub row-at-requires : goal.row-at-requires
-row-at-requires c =
+pub row_at-requires : goal.row_at-requires
+row_at-requires c =
     let p = c.args.self.now in
     omega (arith, trimmed_count p.width (packed_rows p.bytes.now), packed_count p.bytes.now)
 
@@ -18,6 +18,6 @@ pub returns : goal.returns
 returns c =
     let p = c.args.self.now in
     let rows = packed_rows p.bytes.now in
-    let row = c.row-at.ensures ∙ ap (λ (n : ℕ). get_or rows (n - 1) 0) c.get-2.ensures.value in
-    let all = c.up-to.ensures ∙ ap all_below (c.width.ensures ∙ trimmed_width p.width rows) in
+    let row = c.row_at.ensures ∙ ap (λ (n : ℕ). get_or rows (n - 1) 0) c.get-2.ensures.value in
+    let all = c.up_to.ensures ∙ ap all_below (c.width.ensures ∙ trimmed_width p.width rows) in
     c.intersection.ensures ∙ ap₂ both row all ∙ trimmed_read p.width rows c.args.charge.number (omega arith) (omega arith)

@@ -25,8 +25,8 @@ loop-next-preserved c =
     chosen_at c.args.self.marks n bit at (omega (arith, before.among, c.in-Some.mark.range.0)) (omega arith)
     ∙ ap (λ i. (get_or c.args.self.marks i at).number) (sym c.bit.ensures.value) in
     let held : c.holds.result ≡ has c.args.row.bits (bit_of (get_or c.args.self.marks c.bit.result at).number) = c.holds.ensures.value in
-    gathered_more test n c.in-Some.mark old before c.next-next.result c.next-next.ensures c.with-if-chosen.result.bits
-    (c.with-if-chosen.ensures
+    gathered_more test n c.in-Some.mark old before c.next-next.result c.next-next.ensures c.with_if-chosen.result.bits
+    (c.with_if-chosen.ensures
     ∙ ap (λ held. cond held (with_bit old bit) old) (held ∙ ap (λ i. has c.args.row.bits (bit_of i)) (sym here)))
 
 pub loop-next-smaller : goal.loop-next-smaller

@@ -11,6 +11,6 @@ returns-then-get-count g c =
 pub returns : goal.returns
 returns g c =
     let s = c.args.self.now in
-    let flips = c.intersection-flipped.ensures ∙ ap (both s.flipped.bits) (c.up-to.ensures ∙ ap all_below c.width.ensures) in
-    c.symmetric-difference.ensures ∙ ap₂ differing c.row.ensures flips
+    let flips = c.intersection-flipped.ensures ∙ ap (both s.flipped.bits) (c.up_to.ensures ∙ ap all_below c.width.ensures) in
+    c.symmetric_difference.ensures ∙ ap₂ differing c.row.ensures flips
     ∙ sym (reversed_row s.flipped.bits (g.T.Rows.meaning s.below) c.args.charge.number (omega arith) (omega arith))

@@ -28,4 +28,6 @@ impl<U: Allows> Allows for &U {
     }
 }
 
-impl<U: Limit> Limit for &U {}
+impl<U: Limit> Limit for &U {
+    ghost parts = { λ limit. U.Limit.parts limit.now };
+}

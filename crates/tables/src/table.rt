@@ -44,4 +44,6 @@ impl<U: Rows> Rows for &U {
     }
 }
 
-impl<U: Table> Table for &U {}
+impl<U: Table> Table for &U {
+    ghost proper = { λ table. U.Table.proper table.now };
+}

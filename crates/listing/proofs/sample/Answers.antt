@@ -9,7 +9,7 @@ accepted : packed_refusal sample_bytes 5 ≡ None
 unfolding packed_refusal
 accepted = refl
 
-pub returns-in-err-table : goal.returns-in-err-table
-returns-in-err-table c =
-    let none = ap (packed_refusal sample_bytes) c.in-ok-width.ensures.1 ∙ accepted in
-    absurd (none_due _ c.in-err-table.field-0.0 none c.in-err-table.ensures)
+pub returns-in_err-table : goal.returns-in_err-table
+returns-in_err-table c =
+    let none = ap (packed_refusal sample_bytes) c.in_ok-width.ensures.1 ∙ accepted in
+    absurd (none_due _ c.in_err-table.field-0.0 none c.in_err-table.ensures)

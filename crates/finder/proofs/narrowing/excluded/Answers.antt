@@ -25,4 +25,4 @@ loop-next-preserved g c =
 pub returns : goal.returns
 returns g c =
     gathered_all (λ b. not (passes (g.W.Allows.allowed c.args.limit.now) c.args.support.number c.args.outs.bits (get_or c.args.tally.now.marks b no_holding)))
-    c.args.width.number c.loop-next.next c.loop-next.excluded.bits c.loop-next.invariant c.in-default.is
+    c.args.width.number c.loop-next.next c.loop-next.excluded.bits c.loop-next.invariant c.in_default.is

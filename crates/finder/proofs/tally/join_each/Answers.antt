@@ -26,4 +26,4 @@ loop-mark-preserved c =
     (c.without-rest.ensures ∙ ap (without_bit rest) (sym bit)) c.join.ensures c.loop-mark.invariant
 
 pub returns : goal.returns
-returns c = joining_all c.args.row.bits c.loop-mark.rest.bits c.args.marks.now c.loop-mark.marks c.loop-mark.invariant c.in-default.ensures
+returns c = joining_all c.args.row.bits c.loop-mark.rest.bits c.args.marks.now c.loop-mark.marks c.loop-mark.invariant c.in_default.ensures

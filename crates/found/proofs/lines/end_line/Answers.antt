@@ -12,4 +12,4 @@ returns c =
     }
 
 pub unreachable-requires : goal.unreachable-requires
-unreachable-requires c = omega (arith, c.in-default.ensures, end_short c.args.sets c.args.opened (omega arith) (omega arith))
+unreachable-requires c = omega (arith, c.in_default.ensures, end_short c.args.sets c.args.opened (omega arith) (omega arith))

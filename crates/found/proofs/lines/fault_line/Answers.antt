@@ -16,4 +16,4 @@ returns c =
     }
 
 pub unreachable-requires : goal.unreachable-requires
-unreachable-requires c = omega (arith, c.in-default.ensures, fault_short c.number.result c.first.result c.second.result (omega arith) (omega arith) (omega arith))
+unreachable-requires c = omega (arith, c.in_default.ensures, fault_short c.number.result c.first.result c.second.result (omega arith) (omega arith) (omega arith))

@@ -13,4 +13,4 @@ returns c =
     }
 
 pub unreachable-requires : goal.unreachable-requires
-unreachable-requires c = omega (arith, c.in-default.ensures, line_short c.args.set.bits c.from.result (omega (arith, c.from.ensures)))
+unreachable-requires c = omega (arith, c.in_default.ensures, line_short c.args.set.bits c.from.result (omega (arith, c.from.ensures)))

@@ -2,16 +2,16 @@ use Rattle.std.proofs.Common.{◌++◌, codes, decimal}
 use Rattle.found.proofs.Writing.{put_then, put_short}
 use Rattle.found.proofs.lines.put_end.Goals as goal
 
-pub returns-in-err-end : goal.returns-in-err-end
-returns-in-err-end c =
+pub returns-in_err-end : goal.returns-in_err-end
+returns-in_err-end c =
     put_short c.args.out.now c.put_field.new.out 0 (codes "sets " ++ decimal c.args.sets) ((codes " opened " ++ decimal c.args.opened) ++ codes "\n")
-    c.from_residual.result c.from_residual.ensures c.in-err-end.ensures
+    c.from_residual.result c.from_residual.ensures c.in_err-end.ensures
 
-pub returns-in-err-end-2 : goal.returns-in-err-end-2
-returns-in-err-end-2 c =
-    put_then c.put_field-2.new.out ((codes " opened " ++ decimal c.args.opened) ++ codes "\n") c.in-ok-end.ensures c.from_residual-in-err-end-2.result
-    (put_short c.put_field.new.out c.put_field-2.new.out c.in-ok-end.end (codes " opened " ++ decimal c.args.opened) (codes "\n")
-    c.from_residual-in-err-end-2.result c.from_residual-in-err-end-2.ensures c.in-err-end-2.ensures)
+pub returns-in_err-end-2 : goal.returns-in_err-end-2
+returns-in_err-end-2 c =
+    put_then c.put_field-2.new.out ((codes " opened " ++ decimal c.args.opened) ++ codes "\n") c.in_ok-end.ensures c.from_residual-in_err-end-2.result
+    (put_short c.put_field.new.out c.put_field-2.new.out c.in_ok-end.end (codes " opened " ++ decimal c.args.opened) (codes "\n")
+    c.from_residual-in_err-end-2.result c.from_residual-in_err-end-2.ensures c.in_err-end-2.ensures)
 
 pub returns : goal.returns
-returns c = put_then _ _ c.in-ok-end.ensures _ (put_then _ _ c.in-ok-end-2.ensures _ c.put_text.ensures)
+returns c = put_then _ _ c.in_ok-end.ensures _ (put_then _ _ c.in_ok-end-2.ensures _ c.put_text.ensures)

@@ -11,15 +11,15 @@ loop-bit-init c = wrote_is (nothing c.args.out.now 0 (omega arith)) refl refl (m
 pub loop-bit-preserved : goal.loop-bit-preserved
 loop-bit-preserved c = wrote_is (then c.loop-bit.invariant c.in-Some.ensures) refl refl (marks_more c.args.set.bits c.loop-bit.bit)
 
-pub returns-in-default : goal.returns-in-default
-returns-in-default c =
+pub returns-in_default : goal.returns-in_default
+returns-in_default c =
     let set = c.args.set.bits in
     let bit = c.loop-bit.bit in
     let more = ap length (marks_more set bit) in
     let both = length-append (marks_text set bit) (mark_text set bit) in
     let e : (bit + 1) + (most_marks - (bit + 1)) ≡ most_marks = omega (arith, c.loop-bit-test.true) in
     let le = subst (λ n. length (marks_text set (bit + 1)) ≤ length (marks_text set n)) e (marks_le set (bit + 1) (most_marks - (bit + 1))) in
-    omega (arith, c.in-default.ensures, same_length c.loop-bit.invariant, c.loop-bit.invariant.ends, more, both, le)
+    omega (arith, c.in_default.ensures, same_length c.loop-bit.invariant, c.loop-bit.invariant.ends, more, both, le)
 
 pub returns : goal.returns
 returns c =

@@ -29,7 +29,7 @@ returns-in-Some c =
     let room : n ≤ length new = omega (arith, c.fill.auto.memory) in
     let z : n - 0 ≡ n = omega arith in
     let up = subst (λ k. FirstUnordered RecordBefore (take k new) (Some c.in-Some.place)) z c.in-Some.ensures in
-    let place = judged bytes (λ i. (c.type-inv.bytes i).fits) (take n new) (front_is bytes new room c.fill.ensures.front) (Some c.in-Some.place) up in
+    let place = judged bytes (λ i. (c.type_inv.bytes i).fits) (take n new) (front_is bytes new room c.fill.ensures.front) (Some c.in-Some.place) up in
     record {
       answer = refused_order bytes (length c.args.memory.now) c.if-bytes-ne0.false c.if-count-memory.false c.in-Some.place place ∙ ap (λ (e : Refusal). Some e) (sym c.at.ensures);
       memory = filled bytes c.if-bytes-ne0.false c.args.memory.now new c.if-count-memory.false (omega (arith, c.fill.auto.memory)) c.fill.ensures.front c.fill.ensures.rest;
@@ -44,7 +44,7 @@ returns-in-None c =
     let room : n ≤ length new = omega (arith, c.fill.auto.memory) in
     let z : n - 0 ≡ n = omega arith in
     let up = subst (λ k. FirstUnordered RecordBefore (take k new) None) z c.in-None.ensures in
-    let place = judged bytes (λ i. (c.type-inv.bytes i).fits) (take n new) (front_is bytes new room c.fill.ensures.front) None up in
+    let place = judged bytes (λ i. (c.type_inv.bytes i).fits) (take n new) (front_is bytes new room c.fill.ensures.front) None up in
     record {
       answer = (accepted bytes (length c.args.memory.now) c.if-bytes-ne0.false c.if-count-memory.false place, refl);
       memory = filled bytes c.if-bytes-ne0.false c.args.memory.now new c.if-count-memory.false (omega (arith, c.fill.auto.memory)) c.fill.ensures.front c.fill.ensures.rest;

@@ -10,8 +10,8 @@ use Rattle.limits.proofs.weight.weigh.Goals as goal
 pub loop-mark-init : goal.loop-mark-init
 loop-mark-init c = (omega arith, omega arith)
 
-pub overflow-add-sum : goal.overflow-add-sum
-overflow-add-sum c =
+pub overflow_add-sum : goal.overflow_add-sum
+overflow_add-sum c =
     let weight : ℕ → ℕ = λ b. get_or c.args.weights.now b 0 in
     let rest = c.loop-mark.rest.bits in
     let b = bit_of c.in-Some.mark.number in
@@ -23,7 +23,7 @@ overflow-add-sum c =
       ap weight c.bit.ensures.value,
       weight_without weight most_marks rest b c.loop-mark.invariant.1 low held low,
       c.loop-mark.invariant.0,
-      weight_bound weight 65535 (λ k. omega (arith, c.type-inv.weights k)) most_marks c.args.set.bits,
+      weight_bound weight 65535 (λ k. omega (arith, c.type_inv.weights k)) most_marks c.args.set.bits,
     )
 
 pub loop-mark-smaller : goal.loop-mark-smaller
@@ -54,4 +54,4 @@ loop-mark-preserved c =
 pub returns : goal.returns
 returns c =
     let weight : ℕ → ℕ = λ b. get_or c.args.weights.now b 0 in
-    omega (arith, c.loop-mark.invariant.0, ap (weight_of c.args.weights.now) c.in-default.ensures, weight_none weight most_marks)
+    omega (arith, c.loop-mark.invariant.0, ap (weight_of c.args.weights.now) c.in_default.ensures, weight_none weight most_marks)

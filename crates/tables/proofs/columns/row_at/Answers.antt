@@ -22,4 +22,4 @@ loop-next-preserved c =
 pub returns : goal.returns
 returns c =
     gathered_all (λ b. column_has c.args.words.now c.args.per b c.args.place) c.args.width.number c.loop-next.next
-    c.loop-next.row.bits c.loop-next.invariant c.in-default.is
+    c.loop-next.row.bits c.loop-next.invariant c.in_default.is

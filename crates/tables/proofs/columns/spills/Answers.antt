@@ -11,7 +11,7 @@ returns-then-used-ne0 c =
     let m = c.args.count in
     let last : ℕ → ℕ = λ per. get_or words (c.args.bit * per + per - 1) 0 in
     ap (λ per. not (eqb (last per / 2 ^ (m % word_bits)) no_marks)) c.words_per_mark-per.ensures.value
-    ∙ ap (λ past. not (eqb past no_marks)) (sym (past_is words m c.args.bit c.if-used-ne0.true (c.type-inv.words (c.args.bit * words_per_mark m + words_per_mark m - 1)).fits))
+    ∙ ap (λ past. not (eqb past no_marks)) (sym (past_is words m c.args.bit c.if-used-ne0.true (c.type_inv.words (c.args.bit * words_per_mark m + words_per_mark m - 1)).fits))
 
 pub returns-else-used-ne0 : goal.returns-else-used-ne0
 returns-else-used-ne0 c =

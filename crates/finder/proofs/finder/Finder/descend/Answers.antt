@@ -25,7 +25,7 @@ unreachable-requires g c =
     let b = bit_of c.in-Some.mark.number in
     let low : Lowest (free_marks q.table.width node.ins.bits node.outs.bits) b =
     subst (λ s. Lowest s b) (free_is _ _ _ _ node.ins.bits node.outs.bits c.free.ensures c.up_to-all.ensures c.width.ensures) c.in-Some.ensures in
-    child_there q small node ready b (ready_free q small node ready b low) c.«with».result.bits c.«with».ensures c.open.result c.open.ensures.node c.in-default-open.is
+    child_there q small node ready b (ready_free q small node ready b low) c.«with».result.bits c.«with».ensures c.open.result c.open.ensures.node c.in_default-open.is
 
 pub loop-mark-smaller : goal.loop-mark-smaller
 loop-mark-smaller g c =
@@ -62,4 +62,4 @@ returns g c =
     let node = c.loop-mark.node in
     descending_done q (g.met.T.Table.proper c.args.self.now.table).wide.1 c.args.start c.args.turns.bits c.args.opened.now node c.loop-mark.turned.bits
     c.loop-mark.opened c.loop-mark.invariant
-    (sym (free_is _ _ _ _ node.ins.bits node.outs.bits c.free.ensures c.up_to-all.ensures c.width.ensures) ∙ c.in-default.ensures)
+    (sym (free_is _ _ _ _ node.ins.bits node.outs.bits c.free.ensures c.up_to-all.ensures c.width.ensures) ∙ c.in_default.ensures)

@@ -15,8 +15,8 @@ ins_are ins below x b e f = e ∙ ap (both x) f
 outs_are : (outs rest below x b : ℕ) → outs ≡ with_bit rest b → rest ≡ minus below x → below ≡ all_below b → outs ≡ aside_out x b
 outs_are outs rest below x b e f h = e ∙ ap (λ r. with_bit r b) (f ∙ ap (λ s. minus s x) h)
 
-pub returns-in-default : goal.returns-in-default
-returns-in-default g c = inl (c.in-default.ensures, refl, refl)
+pub returns-in_default : goal.returns-in_default
+returns-in_default g c = inl (c.in_default.ensures, refl, refl)
 
 pub returns-in-Some-open : goal.returns-in-Some-open
 returns-in-Some-open g c =

@@ -20,6 +20,6 @@ pub returns : goal.returns
 returns g c =
     let m = g.T.Rows.meaning c.args.table.now in
     record {
-      value = tallied_all m c.args.set.bits c.count-count.result c.loop-next.next c.loop-next.tally c.loop-next.invariant c.in-default.is;
+      value = tallied_all m c.args.set.bits c.count-count.result c.loop-next.next c.loop-next.tally c.loop-next.invariant c.in_default.is;
       laws = closure_laws m;
     }

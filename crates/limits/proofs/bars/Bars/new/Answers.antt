@@ -9,8 +9,8 @@ returns-in-Some c =
 
 pub returns-in-Some-first_misplaced : goal.returns-in-Some-first_misplaced
 returns-in-Some-first_misplaced c =
-    refused_pair c.args.pairs.now (sym c.in-default.ensures) c.in-Some-first_misplaced.place (sym c.in-Some-first_misplaced.ensures)
+    refused_pair c.args.pairs.now (sym c.in_default.ensures) c.in-Some-first_misplaced.place (sym c.in-Some-first_misplaced.ensures)
     ∙ ap (λ (e : Refusal). Some e) (sym c.at-in-Some-first_misplaced.ensures)
 
 pub returns : goal.returns
-returns c = (accepted c.args.pairs.now (sym c.in-default.ensures) (sym c.in-default-first_misplaced.ensures), refl)
+returns c = (accepted c.args.pairs.now (sym c.in_default.ensures) (sym c.in_default-first_misplaced.ensures), refl)

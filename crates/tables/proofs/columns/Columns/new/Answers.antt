@@ -37,6 +37,6 @@ returns c =
     let m = c.args.count in
     let few : m ≤ most_charges = omega (arith, c.from.ensures) in
     let e = sized n (words_per_mark m) c.get.result c.words_per_mark.result c.get.ensures.value c.words_per_mark.ensures.value in (
-      accepted words n m few (c.if-words-get.false ∙ e) (sym c.in-default.ensures),
+      accepted words n m few (c.if-words-get.false ∙ e) (sym c.in_default.ensures),
       ap (λ w. columns_meaning words w m) c.get-2.ensures.value ∙ columns_same words n m c.args.width.range few,
     )

@@ -76,5 +76,5 @@ loop-mark-preserved c =
 pub returns : goal.returns
 returns c i h =
     c.loop-mark.invariant.1 i h
-    ∙ put_all c.args.per (c.get.result - 1) c.args.row.bits (omega arith) (omega arith) c.loop-mark.rest.bits i (get_or c.args.words.now i 0) c.in-default.ensures
+    ∙ put_all c.args.per (c.get.result - 1) c.args.row.bits (omega arith) (omega arith) c.loop-mark.rest.bits i (get_or c.args.words.now i 0) c.in_default.ensures
     ∙ ap (λ n. put_word c.args.per (n - 1) c.args.row.bits i (get_or c.args.words.now i 0)) c.get.ensures.value

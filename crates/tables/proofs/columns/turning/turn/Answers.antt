@@ -55,7 +55,7 @@ returns g c =
     let per = c.words_per_mark-per.ensures.value ∙ ap words_per_mark c.count-count.ensures in
     let size : length c.args.words.now ≡ m.width * words_per_mark (count_of m) =
     c.if-words-get.false ∙ ap₂ (λ n p. n * p) (c.get.ensures.value ∙ c.width-width.ensures) per in
-    let done = ap (passed c.count-count.result) c.in-default.is ∙ c.count-count.ensures in
+    let done = ap (passed c.count-count.result) c.in_default.is ∙ c.count-count.ensures in
     let whole : c.loop-next.words ≡ turned m =
     turned_whole m c.loop-next.words (omega (arith, size, c.loop-next.auto.words, c.fill.ensures.len))
     (λ i h. c.loop-next.invariant.1 i h ∙ ap (λ n. turned_word (words_per_mark (count_of m)) (take n m.rows) i) done

@@ -28,5 +28,5 @@ loop-next-preserved g c =
 pub returns : goal.returns
 returns g c =
     let done = passed_all (g.T.Rows.meaning c.args.table.now) c.args.set.bits c.count-count.result c.loop-next.next
-    c.loop-next.holding.support c.loop-next.holding.closure.bits c.loop-next.invariant c.in-default.is in
+    c.loop-next.holding.support c.loop-next.holding.closure.bits c.loop-next.invariant c.in_default.is in
     record { support = done.0; closure = done.1 }

@@ -9,7 +9,7 @@ use Rattle.tables.proofs.layers.choice.gathered.Goals as goal
 
 pub unreachable-requires : goal.unreachable-requires
 unreachable-requires c =
-    range_due most_marks (get_or c.args.numbers.now c.loop-index.index 0) c.in-default.field-0 c.in-default.ensures
+    range_due most_marks (get_or c.args.numbers.now c.loop-index.index 0) c.in_default.field-0 c.in_default.ensures
     (inside c.args.numbers.now c.requires.1 c.loop-index.index c.loop-index-test.true)
 
 pub loop-index-init : goal.loop-index-init

@@ -25,7 +25,7 @@ pub returns : goal.returns
 returns c =
     let bytes = c.args.bytes.now in
     let n = c.args.width.number in
-    let none = ap (λ all. first_place (strays all) (packed_rows bytes)) (sym c.up_to.ensures) ∙ sym c.in-default.ensures in (
+    let none = ap (λ all. first_place (strays all) (packed_rows bytes)) (sym c.up_to.ensures) ∙ sym c.in_default.ensures in (
       accepted bytes n c.if-bytes-ne0.false c.if-bytes.false none,
       ap (λ w. trimmed w (packed_rows bytes)) c.get.ensures.value
           ∙ trimmed_same n (packed_rows bytes) (packed_proper bytes n c.args.width.range c.if-bytes.false none),

@@ -41,4 +41,4 @@ returns c =
     let marks = chosen c.args.self.marks n in
     let test : ℕ → Bool = λ j. has c.args.row.bits (bit_of (get_or marks j 0)) in
     let long : length marks ≡ n = omega (arith, chosen_length c.args.self.marks n) in
-    gathered_all test n c.loop-next.next c.loop-next.chosen.bits c.loop-next.invariant c.in-default.is ∙ ap (picked test) (sym long)
+    gathered_all test n c.loop-next.next c.loop-next.chosen.bits c.loop-next.invariant c.in_default.is ∙ ap (picked test) (sym long)

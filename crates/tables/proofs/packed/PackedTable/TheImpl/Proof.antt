@@ -1,7 +1,0 @@
--- Rattle writes no proof of an impl of a trait with a law at a type with a lifetime.
-
-use Rattle.tables.specs.contracts.packed.PackedTable.TheImpl.Laws.{lawful}
-use Rattle.tables.proofs.packed.PackedTable.TheImpl.Statement.{statement}
-
-pub bound : statement
-bound γ κ M 𝓤 𝓛 𝓜 𝓡 = record { proper = lawful.proper }

@@ -1,7 +1,6 @@
 -- Which listed sets fit a node, and how it is narrowed, from closures alone.
 use Rattle.std.proofs.Common.{◌≡◌, ℕ, ◌^◌, ◌<◌, ◌≤◌, Bool, true, false, not, ◌&&◌, eqb, ltb, leb, ◌⊎◌, sym, ap, ◌∙◌, subst, inl, inr, ⊎_elim, arith, pow_mono}
 use lib.Bits.{or_lt}
-use Rattle.std.specs.List.{ContainsAt as Has}
 use Rattle.std.proofs.lemmas.Nat.{pow_below}
 use Rattle.std.proofs.lemmas.Bool.{both_ways, cases_Bool, and_parts, and_from, eq-eqb, eqb-true, leb-true, le-leb, ltb-true, lt-ltb, not_from_true, not_from_false}
 use Rattle.marks.specs.Numbers.{most_marks}
@@ -11,11 +10,11 @@ use Rattle.marks.specs.Parts.{part_has}
 use Rattle.marks.proofs.Picks.{has_picked, picked_below}
 use Rattle.limits.specs.Limits.{AllowsParts}
 use Rattle.tables.specs.Holding.{support_of, closure_of}
-use Rattle.closed.specs.Families.{Fits, dead, list_of, turns}
-use Rattle.closed.specs.Walks.{Narrowed, Exact}
-use Rattle.closed.specs.Closed.{Query, closed, wanted, listed, the_list, closure_passes, narrow_in, narrow_out, ListLaws}
+use Rattle.closed.specs.Families.{Fits, dead}
+use Rattle.closed.specs.Walks.{Narrowed}
+use Rattle.closed.specs.Closed.{Query, closed, wanted, listed, closure_passes, narrow_in, narrow_out, ListLaws}
 use Rattle.closed.proofs.Closing.{closure_below, closure_holds, closure_grows, closure_again, support_falls, support_closure}
-use Rattle.closed.proofs.Fitting.{fits_listed, fits_has, fits_lacks, fits_from, fits_with, fits_with_back, fits_with_has, fits_alive, dead_none, none_dead, alive_some, in_none_below, narrowed_exact, narrowed_one, narrowed_defined}
+use Rattle.closed.proofs.Fitting.{fits_listed, fits_lacks, fits_from, fits_with, fits_with_back, fits_with_has, fits_alive, none_dead, alive_some, in_none_below, narrowed_one, narrowed_defined}
 use Rattle.closed.proofs.Ordered.{list_ordered, list_has, list_only}
 use Rattle.closed.proofs.Turning.{turns_are}
 

@@ -7,7 +7,7 @@ use Rattle.marks.specs.Orders.{Before}
 use Rattle.marks.specs.Refusals.{unplaced, due_if, first_due}
 use Rattle.marks.specs.Sets.{has, no_marks, all_below, both, part_of, PartOf}
 use Rattle.tables.specs.Meaning.{Meaning}
-use Rattle.tables.specs.Holding.{holders, support_of, closure_of}
+use Rattle.tables.specs.Holding.{support_of, closure_of}
 use Rattle.closed.specs.Families.{list_of, Pairwise, Turns, turns, dead, fitting, in_every, in_none}
 
 -- What a list is made of: the meaning of a table, which sets a limit allows, and the least support.

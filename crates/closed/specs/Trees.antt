@@ -1,5 +1,5 @@
 -- The tree of the nodes of a family.
-use Rattle.std.specs.Prelude.{◌≡◌, ℕ, zero, suc, ◌+◌, ◌-◌, ◌*◌, ◌<◌, ◌≤◌, Bool, cond, ◌||◌, List, [], ◌∷◌, ◌++◌, length, slice_index}
+use Rattle.std.specs.Prelude.{◌≡◌, ℕ, zero, suc, ◌+◌, ◌-◌, ◌*◌, ◌≤◌, Bool, cond, ◌||◌, List, [], ◌∷◌, ◌++◌, length, slice_index}
 use Rattle.marks.specs.Sets.{has, no_marks, with_bit}
 use Rattle.closed.specs.Families.{list_of, dead, fitting, in_every, in_none, turn_count}
 

@@ -1,7 +1,7 @@
-use Rattle.std.proofs.Common.{◌≡◌, ℕ, ◌-◌, ◌/◌, ◌<◌, ◌≤◌, length, get_or, take, Some, None, sym, refl, ap, ◌∙◌, subst, arith}
+use Rattle.std.proofs.Common.{◌≡◌, ◌-◌, ◌/◌, ◌≤◌, length, take, Some, None, sym, refl, ap, ◌∙◌, subst, arith}
 use Rattle.marks.specs.declared.refusal.Refusal.{Refusal}
 use Rattle.marks.specs.Orders.{FirstUnordered}
-use Rattle.found.specs.Records.{record_length, record_at, found_records, no_record}
+use Rattle.found.specs.Records.{record_length}
 use Rattle.found.proofs.ReadBack.{RecordBefore, comes_before_decides, kept_ragged, kept_short, filled, front_is, judged, refused_ragged, refused_place, refused_order, accepted}
 use Rattle.found.proofs.reading.read_back.Goals as goal
 

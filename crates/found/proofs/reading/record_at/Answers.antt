@@ -1,5 +1,4 @@
 use Rattle.std.proofs.Common.{◌≡◌, ℕ, ◌+◌, ap, ◌∙◌}
-use Rattle.marks.specs.declared.sets.MarkSet.{MarkSet}
 use Rattle.found.specs.declared.record.Record.{Record}
 use Rattle.found.specs.Records.{four_at, eight_at, record_at}
 use Rattle.found.proofs.reading.record_at.Goals as goal

@@ -1,4 +1,4 @@
-use Rattle.std.proofs.Common.{◌≡◌, ℕ, List, sym, ap, ◌∙◌, arith, rules}
+use Rattle.std.proofs.Common.{◌≡◌, ℕ, List, ap, ◌∙◌, arith, rules}
 use Rattle.found.specs.declared.record.Record.{Record}
 use Rattle.found.specs.Records.{record_bytes, record_at}
 use Rattle.found.proofs.Laying.{record_back}

@@ -1,7 +1,7 @@
 -- The laws of closure and support.
 use Rattle.std.proofs.Common.{◌≡◌, ℕ, ◌^◌, ◌<◌, ◌≤◌, Bool, true, false, cond, List, [], ◌∷◌, length, Decides, fold, filter, sym, refl, ◌∙◌, arith}
 use lib.Bits.{bit_and}
-use Rattle.std.specs.List.{ContainsAt as Has, AllByRecursion as All}
+use Rattle.std.specs.List.{ContainsAt as Has, AllByRecursion}
 use Rattle.std.proofs.ByRecursion.{All-weaker, all-has, all_has_itself}
 use Rattle.std.proofs.lemmas.List.{nil_from_length}
 use Rattle.std.proofs.lemmas.Bool.{both_ways, and_parts, and_from, ltb-true, lt-ltb}
@@ -16,7 +16,7 @@ use Rattle.closed.specs.Closed.{ClosureLaws}
 
 -- every row that holds s has b
 abbrev Shared : ℕ → ℕ → List ℕ → Type 0
-Shared s b rows = All (λ row. PartOf s row → has row b ≡ true) rows
+Shared s b rows = AllByRecursion (λ row. PartOf s row → has row b ≡ true) rows
 
 fold_has : (s b k : ℕ) (rows : List ℕ) → has (fold bit_and k (filter (held_by s) rows)) b ≡ true → (has k b ≡ true) × Shared s b rows
 fold_has s b k [] h = (h, tt)
@@ -45,7 +45,7 @@ has_fold s b k (r ∷ rows) h a = by (part_of s r) refl (λ j g. has_fold s b j 
 -- ---- how many rows hold a set
 
 -- a test that passes wherever another does keeps no less
-filter_le : (t u : ℕ → Bool) (rows : List ℕ) → All (λ row. t row ≡ true → u row ≡ true) rows → length (filter t rows) ≤ length (filter u rows)
+filter_le : (t u : ℕ → Bool) (rows : List ℕ) → AllByRecursion (λ row. t row ≡ true → u row ≡ true) rows → length (filter t rows) ≤ length (filter u rows)
 filter_le t u [] a = omega arith
 filter_le t u (r ∷ rows) a = by (t r) (u r) refl refl (filter_le t u rows a.1)
   where

@@ -1,6 +1,6 @@
 -- The tree of the nodes of a family: its leaves are the list, and the nodes up to a leaf are counted by the turns of its set.
 use Rattle.std.proofs.Common.{◌≡◌, ℕ, zero, suc, ◌+◌, ◌-◌, ◌<◌, ◌≤◌, Bool, true, false, cond, ◌||◌, ltb, ◌⊎◌, [], ◌∷◌, ◌++◌, length, get_or, sym, refl, ap, ◌∙◌, subst, inl, inr, ⊎_elim, arith}
-use Rattle.std.specs.List.{ContainsAt as Has, AllByRecursion as All}
+use Rattle.std.specs.List.{ContainsAt as Has, AllByRecursion}
 use Rattle.std.proofs.lemmas.List.{length-append, get_or_append_left, get_or-append_right, nil_from_length}
 use Rattle.std.proofs.ByRecursion.{All-append, All-weaker, all-has, has_append_left, has_append_right}
 use Rattle.std.proofs.lemmas.Bool.{ltb-true, ltb-false, cases_Bool, or_parts, cond-true, cond-false}
@@ -21,7 +21,7 @@ use Rattle.closed.proofs.Counting.{lefts, upto_lefts, length_nodes}
 module _ (p : ℕ → Bool) (n : ℕ) where
   -- what is known of the tree g below the node (i, o), to which t turns lead
   record Grown (i o t : ℕ) (g : Tree) : Type 0 where
-    fit : All (Fits p n i o) (leaves g)
+    fit : AllByRecursion (Fits p n i o) (leaves g)
     all : (z : ℕ) → Fits p n i o z → Has (leaves g) z
     ordered : Pairwise Before (leaves g)
     turned : (k : ℕ) → k < length (leaves g) → turn_count p n (get_or (leaves g) k 0) ≡ size_of t + lefts g k
@@ -55,7 +55,7 @@ module _ (p : ℕ → Bool) (n : ℕ) where
             (All-weaker (Fits p n c d) (Fits p n i o) (λ z f. fits_without_back p n i o z q (w.same z f)) (leaves y) h.fit);
         all = λ z f. by z f (cases_Bool (has z q));
         ordered = pairwise_append Before (leaves x) (leaves y) g.ordered h.ordered
-            (All-weaker (Fits p n a b) (λ z. All (Before z) (leaves y))
+            (All-weaker (Fits p n a b) (λ z. AllByRecursion (Before z) (leaves y))
             (λ z f. All-weaker (Fits p n c d) (Before z) (λ u k. before z u (v.same z f) (w.same u k)) (leaves y) h.fit) (leaves x) g.fit);
         turned = λ k l. turned k l (ltb k (length (leaves x))) refl;
         alive = (g.alive, h.alive);

@@ -1,6 +1,6 @@
 -- Lists in an order, what a list has, and the list of a family.
 use Rattle.std.proofs.Common.{◌≡◌, ℕ, zero, suc, ◌+◌, ◌*◌, ◌/◌, ◌%◌, ◌^◌, ◌<◌, Bool, true, false, cond, ◌⊎◌, List, [], ◌∷◌, ◌++◌, map, length, get_or, filter, sym, refl, ap, ◌∙◌, subst, ap₂, inl, inr, ⊎_elim, mod-lt, zero-lt-suc, arith}
-use Rattle.std.specs.List.{ContainsAt as Has, AllByRecursion as All}
+use Rattle.std.specs.List.{ContainsAt as Has, AllByRecursion}
 use Rattle.std.proofs.lemmas.List.{length-append, length-map, get_or-map}
 use Rattle.std.proofs.ByRecursion.{All-get_or, All-append, All-map, All-weaker, all_kept_by, all-has, all_has_itself, kept_by_passes, has_get_or, has_append_left, has_append_right}
 use Rattle.std.proofs.lemmas.Bool.{cases_order, cases_Bool, both_ways, or_left, or_right, or_cases}
@@ -11,7 +11,7 @@ use Rattle.closed.specs.Families.{subsets, list_of, Pairwise, any, Listed, Follo
 -- ---- lists in an order
 
 module _ (R : ℕ → ℕ → Type 0) where
-  pub pairwise_append : (xs ys : List ℕ) → Pairwise R xs → Pairwise R ys → All (λ x. All (R x) ys) xs → Pairwise R (xs ++ ys)
+  pub pairwise_append : (xs ys : List ℕ) → Pairwise R xs → Pairwise R ys → AllByRecursion (λ x. AllByRecursion (R x) ys) xs → Pairwise R (xs ++ ys)
   pairwise_append [] ys p q a = q
   pairwise_append (x ∷ xs) ys p q a = (All-append (R x) xs ys p.0 a.0, pairwise_append xs ys p.1 q a.1)
 
@@ -137,7 +137,7 @@ unfolding subsets
 length_subsets zero = refl
 length_subsets (suc n) = simp (length-append, length-map) (omega (arith, length_subsets n))
 
-pub subsets_below : (n : ℕ) → All (λ x. x < 2 ^ n) (subsets n)
+pub subsets_below : (n : ℕ) → AllByRecursion (λ x. x < 2 ^ n) (subsets n)
 unfolding subsets
 subsets_below zero = (omega arith, tt)
 subsets_below (suc n) =
@@ -155,15 +155,15 @@ subsets_ordered (suc n) =
     (subsets n) (subsets_ordered n))
     (pairwise_map Before even (λ x y b. before_half (even x) (even y) (omega arith) (halves (even x) (even y) x y (omega arith) (omega arith) b))
     (subsets n) (subsets_ordered n))
-    (All-map (λ x. All (Before x) (map even (subsets n))) odd (subsets n)
-    (all_of (λ x. All (Before (odd x)) (map even (subsets n)))
+    (All-map (λ x. AllByRecursion (Before x) (map even (subsets n))) odd (subsets n)
+    (all_of (λ x. AllByRecursion (Before (odd x)) (map even (subsets n)))
     (λ x. All-map (Before (odd x)) even (subsets n)
     (all_of (λ y. Before (odd x) (even y)) (λ y. before_odd (odd x) (even y) (omega arith) (omega arith)) (subsets n))) (subsets n)))
   where
     halves : (a b x y : ℕ) → a / 2 ≡ x → b / 2 ≡ y → Before x y → Before (a / 2) (b / 2)
     halves a b x y e f h = subst (λ z. Before z (b / 2)) (sym e) (subst (Before x) (sym f) h)
 
-    all_of : (P : ℕ → Type 0) → ((x : ℕ) → P x) → (xs : List ℕ) → All P xs
+    all_of : (P : ℕ → Type 0) → ((x : ℕ) → P x) → (xs : List ℕ) → AllByRecursion P xs
     all_of P f [] = tt
     all_of P f (x ∷ xs) = (f x, all_of P f xs)
 

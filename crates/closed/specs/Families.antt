@@ -1,10 +1,10 @@
 -- Families of sets: the sets of marks below n that pass a test p, their list, and which of them fit a node.
 use Rattle.std.specs.Prelude.{◌≡◌, ℕ, zero, suc, ◌+◌, ◌*◌, ◌^◌, ◌<◌, Bool, true, false, not, ◌&&◌, ◌||◌, List, [], ◌∷◌, ◌++◌, map, filter, ◌==◌}
-use Rattle.std.specs.List.{AllByRecursion as All}
+use Rattle.std.specs.List.{AllByRecursion}
 use Rattle.marks.specs.Orders.{Before}
 use Rattle.marks.specs.Sets.{has, no_marks, all_below, both, part_of, PartOf, size_of, picked}
 
--- All sets of marks below n, in list order: those with the lowest mark, then those without it, each in the order of what is left.
+-- AllByRecursion sets of marks below n, in list order: those with the lowest mark, then those without it, each in the order of what is left.
 unfoldable pub subsets : ℕ → List ℕ
 subsets zero = no_marks ∷ []
 subsets (suc n) = map (λ x. x * 2 + 1) (subsets n) ++ map (λ x. x * 2) (subsets n)
@@ -16,7 +16,7 @@ list_of p n = filter p (subsets n)
 -- each element of a list stands in the relation to every later one
 abbrev pub Pairwise : (ℕ → ℕ → Type 0) → List ℕ → Type 0
 Pairwise R [] = Unit {0}
-Pairwise R (x ∷ xs) = All (R x) xs × Pairwise R xs
+Pairwise R (x ∷ xs) = AllByRecursion (R x) xs × Pairwise R xs
 
 -- some element of a list passes the test
 abbrev pub any : (ℕ → Bool) → List ℕ → Bool

@@ -51,7 +51,7 @@ module _ (p : ℕ → Bool) (n : ℕ) where
   node_tree =
       cond (dead p n no_marks no_marks) dead_end (grow n 0 (in_every n (fitting p n no_marks no_marks)) (in_none n (fitting p n no_marks no_marks)))
 
-  -- What the tree says of the list: its leaves are the list; up to and including the k_th leaf, counted from 1, there are 2 k - 1 nodes and one for each turn of
+  -- What the tree says of the list: its leaves are the list; up to and including the k-th leaf, counted from 1, there are 2 k - 1 nodes and one for each turn of
   -- that set; with L sets there are 2 L - 1 nodes in all, and none is a dead end; with none there is the root alone, a dead end.
   pub record TreeLaw : Type 0 where
     pub leaves_are : leaves node_tree ≡ list_of p n

@@ -53,11 +53,11 @@ pub record Reached (p : ℕ → Bool) (n q i o t : ℕ) : Type 0 where
   pub turn : (b : ℕ) → has t b ≡ true → Turn p n i b
   pub only : (b : ℕ) → b < q → has i b ≡ true → Turn p n i b → has t b ≡ true
 
--- c nodes were opened up to the k_th set, which has t turns: c is 2 k - 1 + t
+-- c nodes were opened up to the k-th set, which has t turns: c is 2 k - 1 + t
 abbrev pub Opened : ℕ → ℕ → ℕ → Type 0
 Opened k t c = c + 1 ≡ 2 * k + t
 
--- A descent for the k_th set has come from the node (i₀, o₀), all of whose marks below q₀ are decided and at which c₀ nodes were opened, to the node (i, o),
+-- A descent for the k-th set has come from the node (i₀, o₀), all of whose marks below q₀ are decided and at which c₀ nodes were opened, to the node (i, o),
 -- with the turns t and c nodes opened.
 pub record Descent (p : ℕ → Bool) (n k c₀ q₀ i₀ o₀ i o t c : ℕ) : Type 0 where
   pub upto : ℕ
@@ -74,7 +74,7 @@ pub record Descended (p : ℕ → Bool) (n k c₀ q₀ i₀ o₀ x t c : ℕ) : 
   pub opened : Opened k (size_of t) c
   pub grown : c + q₀ ≤ c₀ + n
 
--- x is the k_th set of the list, counted from 1, its turns are t, and c nodes were opened
+-- x is the k-th set of the list, counted from 1, its turns are t, and c nodes were opened
 pub record At (p : ℕ → Bool) (n k x t c : ℕ) : Type 0 where
   pub counted : 1 ≤ k
   pub within : k ≤ length (list_of p n)

@@ -1,19 +1,17 @@
 -- The way down from a node to its first leaf.
-use Rattle.std.proofs.Common.{◌≡◌, ℕ, ◌+◌, ◌-◌, ◌^◌, ◌<◌, ◌≤◌, min, true, false, not, ◌||◌, eqb, Some, None, Option, sym, refl, ap, ◌∙◌, subst, ⊎_elim, arith}
+use Rattle.std.proofs.Common.{◌≡◌, ℕ, ◌+◌, ◌^◌, ◌<◌, ◌≤◌, true, false, eqb, Some, None, Option, sym, refl, ap, ◌∙◌, subst, ⊎_elim, arith}
 use lib.Count.{ones-le}
 use Rattle.std.proofs.lemmas.Bool.{both_ways, cases_Bool, eq-eqb}
 use Rattle.marks.specs.Numbers.{most_marks}
 use Rattle.marks.specs.Sets.{has, no_marks, all_below, both, part_of, with_bit, size_of, Lowest}
 use Rattle.marks.proofs.Algebra.{disjoint_from_has}
 use Rattle.marks.specs.Parts.{part_test, part_all_below, part_from_has, part_le}
-use Rattle.tables.specs.Holding.{support_of}
-use Rattle.closed.specs.Families.{Fits, dead, list_of}
-use Rattle.closed.specs.Walks.{Tight, Narrowed, Free, Reached, Opened, Descent, Descended, free_marks}
+use Rattle.closed.specs.Families.{Fits}
+use Rattle.closed.specs.Walks.{Narrowed, Free, Descent, free_marks}
 use Rattle.closed.specs.Closed.{Query, listed, clash, narrow_refusal, narrow_in, narrow_out}
 use Rattle.closed.proofs.Fitting.{fits_has, fits_lacks, fits_with, fits_below, fits_alive, in_every_below, in_none_below}
 use Rattle.closed.proofs.Narrowing.{narrow_exact}
 use Rattle.closed.proofs.Stepping.{small_below, free_lowest, free_none, free_falls, descent_from, descent_step, descent_done}
-use Rattle.finder.specs.declared.finder.descent.Leaf.{Leaf}
 use Rattle.finder.specs.declared.narrowing.Node.{Node}
 use Rattle.finder.specs.Descents.{opened_node, unless, one_more, Ready, Begun, Landed}
 use Rattle.finder.specs.Nodes.{node_of}

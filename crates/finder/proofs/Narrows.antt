@@ -1,14 +1,13 @@
 -- What narrowing answers.
-use Rattle.std.proofs.Common.{◌≡◌, ℕ, ◌^◌, ◌<◌, ◌≤◌, Bool, true, false, not, List, get_or, Some, None, sym, refl, ap, ◌∙◌, subst, ap₂, arith}
+use Rattle.std.proofs.Common.{◌≡◌, ℕ, ◌^◌, ◌<◌, ◌≤◌, true, false, not, get_or, Some, None, sym, ap, ◌∙◌, subst, arith}
 use Rattle.std.proofs.lemmas.Bool.{or_parts, not-false, not_from_true, not_from_false}
 use Rattle.marks.specs.declared.refusal.Reason.TheVariants.{Clash, DeadEnd}
 use Rattle.marks.specs.Numbers.{most_marks}
 use Rattle.marks.specs.Refusals.{unplaced}
-use Rattle.marks.specs.Sets.{with_bit, no_marks, both, picked}
+use Rattle.marks.specs.Sets.{with_bit, picked}
 use Rattle.marks.specs.Parts.{part_fact, below_from_part}
 use Rattle.marks.proofs.Picks.{picked_same}
 use Rattle.limits.specs.Limits.{AllowsParts}
-use Rattle.tables.specs.Meaning.{Meaning}
 use Rattle.tables.specs.Holding.{support_of, closure_of, holding_of}
 use Rattle.closed.specs.Families.{dead}
 use Rattle.closed.specs.Walks.{Exact}

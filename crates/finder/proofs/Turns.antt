@@ -1,29 +1,30 @@
 -- From where a finder stands to the node that is opened next.
-use Rattle.std.proofs.Common.{◌≡◌, ℕ, zero, suc, ◌+◌, ◌-◌, ◌*◌, ◌^◌, ◌<◌, ◌≤◌, Bool, true, false, not, eqb, ltb, ◌⊎◌, [], ◌∷◌, get_or, IfSome, Some, None, Option, sym, refl, ap, ◌∙◌, subst, ap₂, inl, inr, ⊎_elim, arith, pow_pos}
+use Rattle.std.proofs.Common.{◌≡◌, ℕ, suc, ◌+◌, ◌-◌, ◌*◌, ◌^◌, ◌<◌, ◌≤◌, min, Bool, true, false, eqb, [], ◌∷◌, get_or, IfSome, Some, None, Option, sym, refl, ap, ◌∙◌, subst, ap₂, inl, inr, arith, pow_pos}
 use Rattle.std.proofs.lemmas.Bool.{or_parts, not-false, ne_eqb}
 use Rattle.std.proofs.lemmas.Bool.Decides.{nat_tests}
 use Rattle.marks.specs.declared.refusal.Reason.TheVariants.{Clash, DeadEnd}
 use Rattle.marks.specs.declared.refusal.Refusal.{Refusal}
 use Rattle.marks.specs.Numbers.{most_marks}
 use Rattle.marks.specs.Refusals.{unplaced, due_if, first_due}
-use Rattle.marks.specs.Sets.{has, no_marks, without_bit, size_of, Highest}
+use Rattle.marks.specs.Sets.{no_marks, without_bit, size_of, Highest}
 use Rattle.marks.proofs.Algebra.{below_from_has}
 use Rattle.marks.proofs.Due.{none_due}
 use Rattle.marks.specs.Members.{has_below}
 use Rattle.marks.specs.Parts.{part_fact, below_from_part, part_from_has, part_le}
 use Rattle.marks.specs.Sizes.{without_is}
 use Rattle.tables.specs.Meaning.{Proper}
+use Rattle.tables.specs.Holding.{support_of}
 use Rattle.found.specs.declared.record.Record.{Record}
-use Rattle.closed.specs.Families.{Fits, dead, part_in, turn_count}
+use Rattle.closed.specs.Families.{Fits, dead, part_in, turns, turn_count}
 use Rattle.closed.specs.Walks.{Narrowed, Reached, Opened, Descended, At, aside_out}
 use Rattle.closed.specs.Closed.{Query, listed, the_list, clash, above, narrow_refusal}
-use Rattle.closed.proofs.Fitting.{alive_some, dead_none}
+use Rattle.closed.proofs.Fitting.{alive_some}
 use Rattle.closed.proofs.Stepping.{small_below, has_aside_out, aside_some, reached_aside, opened_root, opened_out, at_listed, at_first, at_next, at_last, at_none}
-use Rattle.closed.proofs.Turning.{turns_are}
+use Rattle.closed.proofs.Turning.{turns_are, at_turns}
 use Rattle.closed.proofs.Walking.{first_narrowed, reached_root, reached_narrowed}
 use Rattle.finder.specs.declared.finder.descent.Start.{Start}
 use Rattle.finder.specs.declared.narrowing.Node.{Node}
-use Rattle.finder.specs.Descents.{opened_node, unless, one_more, start_of, Ready, Begun, Turned, TurnedAside}
+use Rattle.finder.specs.Descents.{opened_node, unless, one_more, start_of, Ready, Turned, TurnedAside}
 use Rattle.finder.specs.Found.{how_many, record_of, record_at_place, turns_at_place, opened_at_end}
 use Rattle.finder.specs.Nodes.{node_of}
 use Rattle.finder.proofs.Descending.{fits_opened, fits_narrowed, fits_ready}
@@ -110,7 +111,7 @@ module _ (q : Query) where
     λ x t c d. (at_first (listed q) n x t c (found_back 1 1 0 0 0 x t c node (sym e) d)).0,
   )
 
-  -- ---- turning aside from the k_th set
+  -- ---- turning aside from the k-th set
 
   module _ (small : n ≤ most_marks) (k x t c : ℕ) (at : At (listed q) n k x t c) (few : k ≤ 2 ^ 32) (many : c < 2 ^ 63) where
     pub aside_none : t ≡ no_marks → k ≡ how_many q
@@ -169,7 +170,7 @@ module _ (q : Query) where
   start_ready i o t r e = by (opened_node q i o) refl r e
     where
       by : (node : Option Node) → opened_node q i o ≡ node → (r : Option Start) → r ≡ start_of node t → IfSome r (λ start. Ready q start.node)
-      by node f None g = tt
+      by _ f None g = tt
       by None f (Some start) g = absurd (let z : ◌≡◌ {A = ℕ} 0 1 = cc in omega arith)
       by (Some node) f (Some start) g =
           let same : start ≡ record { node = node; turns = record { bits = t } } = cc in
@@ -180,8 +181,35 @@ module _ (q : Query) where
   aside_ready x t opened r opened' (inr e) = start_ready (part_in x e.0) (aside_out x e.0) (without_bit t e.0) r e.2
 
   -- after a set, the end has the numbers of that set
-  opened_end_some : {j k : ℕ} → j + 1 ≡ k → opened_at_end q k ≡ (record_at_place q k).opened
-  opened_end_some {j} {k} e = let z : eqb k 0 ≡ false = ne_eqb k 0 (omega arith) in rw z
+  opened_end_some : (j k : ℕ) → j + 1 ≡ k → opened_at_end q k ≡ (record_at_place q k).opened
+  opened_end_some j k e = let z : eqb k 0 ≡ false = ne_eqb k 0 (omega arith) in rw z
+
+  -- the next set, as what is remembered of it
+  pub remembered : (k : ℕ) → Proper q.table → (x t c support last ordinal : ℕ) → At (listed q) n (k + 1) x t c → support ≡ support_of q.table x → last ≡ k
+      → ordinal ≡ min (last + 1) (2 ^ 64 - 1)
+      → (k < how_many q) × (record { set = record { bits = x }; support = support; ordinal = ordinal; opened = c } ≡ record_at_place q (k + 1)) × (t ≡ turns_at_place q (k + 1))
+  remembered k proper x t c support last ordinal at s l o = (here, same, turned ∙ ap (turns (listed q) n) (sym entry) ∙ sym (turns_at_more q k here))
+    where
+      here : k < how_many q
+      here = let w = at.within in omega arith
+
+      entry : get_or (the_list q) k 0 ≡ x
+      entry = ap (λ i. get_or (the_list q) i 0) (let i : k ≡ k + 1 - 1 = omega arith in i) ∙ at.entry
+
+      turned : t ≡ turns (listed q) n x
+      turned = at_turns (listed q) n (k + 1) x t c at
+
+      counted : ordinal ≡ k + 1
+      counted = omega (arith, how_many_few q proper, here)
+
+      opened : c ≡ 2 * (k + 1) - 1 + turn_count (listed q) n x
+      opened = let a = at.opened in let e = ap size_of turned in omega arith
+
+      same : record { set = record { bits = x }; support = support; ordinal = ordinal; opened = c } ≡ record_at_place q (k + 1)
+      same =
+          let r : Record = record { set = record { bits = x }; support = support; ordinal = ordinal; opened = c } in
+          let is : r ≡ record_of q (k + 1) x = cc (s, counted, opened) in
+          is ∙ ap (record_of q (k + 1)) (sym entry) ∙ sym (record_at_more q k here)
 
   -- where the finder stands is enough to go on
   stands_at : (j : ℕ) → j < how_many q → (last : Record) (t : ℕ) → last ≡ record_at_place q (j + 1) → t ≡ turns_at_place q (j + 1)
@@ -201,7 +229,7 @@ module _ (q : Query) where
       x = get_or (the_list q) j 0
 
   module _ (k : ℕ) (within : k ≤ how_many q) (last : Record) (t : ℕ) (last_is : last ≡ record_at_place q k) (turns_are_at : t ≡ turns_at_place q k) where
-    ordinal_is : last.ordinal ≡ k
+    pub ordinal_is : last.ordinal ≡ k
     ordinal_is = ap (λ r. r.ordinal) last_is ∙ record_at_ordinal q k within
 
     pub turn_at_root : last.ordinal ≡ 0 → (entry exit : ℕ) → entry ≡ last.opened → exit ≡ one_more entry
@@ -242,7 +270,7 @@ module _ (q : Query) where
 
         by : TurnedAside q last.set.bits t entry r exit → Turned q k r exit
         by (inl s) =
-            let end : exit ≡ opened_at_end q k = s.2 ∙ e ∙ ap (λ r. r.opened) last_is ∙ sym (opened_end_some k_is) in
+            let end : exit ≡ opened_at_end q k = s.2 ∙ e ∙ ap (λ r. r.opened) last_is ∙ sym (opened_end_some j k k_is) in
             subst (λ m. Turned q k m exit) (sym s.1) (aside_none proper.wide.1 k last.set.bits t last.opened at few many s.0, end)
         by (inr s) =
             let b = s.0 in

@@ -26,7 +26,7 @@ module _ {T W : Type 0} (meaning : T → Meaning) (allowed : W → ℕ → Bool)
   abbrev pub query_of : Finder T W → Query
   query_of f = query (meaning f.table) (allowed f.limit) f.support.number
 
-  -- The finder stands after the k_th set of its list: it remembers that set's record and turns. A finder fresh from begin stands after none.
+  -- The finder stands after the k-th set of its list: it remembers that set's record and turns. A finder fresh from begin stands after none.
   pub record Stands (f : Finder T W) (k : ℕ) : Type 0 where
     pub within : k ≤ how_many (query_of f)
     pub last_is : f.last ≡ record_at_place (query_of f) k

@@ -37,7 +37,7 @@ pub record Ready (q : Query) (node : Node) : Type 0 where
   pub outs_below : node.outs.bits < 2 ^ q.table.width
   pub support_is : node.support ≡ support_of q.table node.ins.bits
 
--- A descent for the k_th set may begin at the node with these turns, where so many nodes are opened and the marks below b are decided.
+-- A descent for the k-th set may begin at the node with these turns, where so many nodes are opened and the marks below b are decided.
 pub record Begun (q : Query) (k b : ℕ) (node : Node) (turns opened : ℕ) : Type 0 where
   pub reached : Reached (listed q) q.table.width b node.ins.bits node.outs.bits turns
   pub counted : Opened k (size_of turns) opened
@@ -55,7 +55,7 @@ TurnedAside q x turns opened start opened' =
     ((turns ≡ no_marks) × (start ≡ None) × (opened' ≡ opened))
     ⊎ ((b : ℕ) × Highest turns b × (start ≡ start_of (opened_node q (part_in x b) (aside_out x b)) (without_bit turns b)) × (opened' ≡ one_more opened))
 
--- What is opened to go on from the k_th set: nothing, and then the list is out and so many nodes are opened; or a node from which a descent for the next set may begin, and
+-- What is opened to go on from the k-th set: nothing, and then the list is out and so many nodes are opened; or a node from which a descent for the next set may begin, and
 -- what such a descent finds is the next set.
 abbrev pub Turned : Query → ℕ → Option Start → ℕ → Type 0
 Turned q k None opened = (k ≡ how_many q) × (opened ≡ opened_at_end q k)

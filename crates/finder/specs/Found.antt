@@ -1,5 +1,5 @@
 -- The records of a list, and what is opened on the way.
-use Rattle.std.specs.Prelude.{ℕ, ◌+◌, ◌-◌, ◌*◌, Bool, cond, List, [], ◌∷◌, ◌++◌, map, length, drop, Option, ◌==◌, slice_index, slice_index_or}
+use Rattle.std.specs.Prelude.{ℕ, ◌+◌, ◌-◌, ◌*◌, cond, List, [], ◌∷◌, ◌++◌, map, length, drop, Option, ◌==◌, slice_index, slice_index_or}
 use Rattle.std.specs.List.{range_with_len}
 use Rattle.marks.specs.declared.refusal.Reason.TheVariants.{NothingYet}
 use Rattle.marks.specs.declared.refusal.Refusal.{Refusal}
@@ -15,7 +15,7 @@ use Rattle.closed.specs.Closed.{Query, listed, the_list}
 abbrev pub how_many : Query → ℕ
 how_many q = length (the_list q)
 
--- the record of the set x as the k_th of the list, counted from 1: up to it, 2 k - 1 nodes are opened and one for each of its turns
+-- the record of the set x as the k-th of the list, counted from 1: up to it, 2 k - 1 nodes are opened and one for each of its turns
 abbrev pub record_of : Query → ℕ → ℕ → Record
 record_of q k x = record {
   set = record { bits = x };
@@ -28,7 +28,7 @@ record_of q k x = record {
 unfoldable pub records : Query → List Record
 records q = map (λ k. record_of q (k + 1) (slice_index (the_list q) k)) (range_with_len 0 (how_many q))
 
--- the record of the k_th set, counted from 1, and its turns; before the first, no record and none
+-- the record of the k-th set, counted from 1, and its turns; before the first, no record and none
 unfoldable pub record_at_place : Query → ℕ → Record
 record_at_place q k = cond (k == 0) no_record (slice_index_or (records q) (k - 1) no_record)
 

@@ -1,6 +1,6 @@
 -- The law of all runs: what the transcript of the calls of a finder says, whatever calls were made. It speaks of the list and of records, and not of the finder.
 use Rattle.std.specs.Prelude.{◌≡◌, ℕ, ◌+◌, ◌-◌, ◌*◌, ◌<◌, ◌≤◌, List, [], ◌∷◌, ◌++◌, map, length, take, Ok, Err, fold, Result, slice_index}
-use Rattle.std.specs.List.{range_with_len, ContainsAt as Has, AllByRecursion as All}
+use Rattle.std.specs.List.{range_with_len, ContainsAt as Has, AllByRecursion}
 use Rattle.marks.specs.declared.refusal.Reason.TheVariants.{ShortSlot, NothingYet}
 use Rattle.marks.specs.declared.refusal.Refusal.{Refusal}
 use Rattle.marks.specs.Refusals.{unplaced}
@@ -50,10 +50,10 @@ shown (e ∷ entries) = shown_by e ++ shown entries
 -- the records show the first sets of the list, each once, in list order, with their supports and with their places as ordinals
 pub record FirstSets (q : Query) (out : List Record) : Type 0 where
   pub sets : map (λ r. r.set.bits) out ≡ take (length out) (the_list q)
-  pub supports : All (λ r. r.support ≡ support_of q.table r.set.bits) out
+  pub supports : AllByRecursion (λ r. r.support ≡ support_of q.table r.set.bits) out
   pub ordinals : map (λ r. r.ordinal) out ≡ range_with_len 1 (length out)
 
--- a record of ordinal k shows the k_th set of the list
+-- a record of ordinal k shows the k-th set of the list
 pub record ShowsItsPlace (q : Query) (r : Record) : Type 0 where
   pub counted : 1 ≤ r.ordinal
   pub within : r.ordinal ≤ how_many q

@@ -4,10 +4,10 @@
 #[cfg(test)]
 mod columns;
 #[cfg(test)]
+mod house_limits;
+#[cfg(test)]
 mod layers;
 pub mod ledger;
-#[cfg(test)]
-mod limits;
 #[cfg(test)]
 mod numbers;
 #[cfg(test)]

@@ -1,4 +1,4 @@
-use Rattle.std.proofs.Common.{◌≡◌, ℕ, ◌^◌, ◌<◌, true, sym, ap, ◌∙◌, arith}
+use Rattle.std.proofs.Common.{◌≡◌, ◌^◌, ◌<◌, true, sym, ap, ◌∙◌, arith}
 use Rattle.marks.specs.Numbers.{bit_of}
 use Rattle.marks.specs.Sets.{has, without_bit}
 use Rattle.marks.specs.Parts.{part_le}

@@ -1,10 +1,7 @@
 // The limit on how many marks.
 ghost use Rattle.std.specs.Prelude.{◌≡◌};
 ghost use Rattle.limits.specs.Limits.{small};
-ghost use Rattle.std.proofs.Common.{arith};
-ghost use Rattle.std.proofs.lemmas.Bool.{le-leb, leb-true};
-ghost use Rattle.marks.specs.Sets.{size_of};
-ghost use Rattle.marks.specs.Sizes.{ones_part};
+ghost use Rattle.limits.specs.Smallness.{small_parts};
 
 use crate::limit::{Allows, Limit};
 use marks::MarkSet;
@@ -33,5 +30,5 @@ impl Allows for Size {
 }
 
 impl Limit for Size {
-    ghost parts = { λ limit x y l part h. le-leb (size_of x) limit.most (omega (arith, leb-true (size_of y) limit.most h, ones_part x y part)) };
+    ghost parts = { λ limit. small_parts limit.most };
 }

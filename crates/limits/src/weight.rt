@@ -1,10 +1,8 @@
 // The limit on weights.
-ghost use Rattle.std.specs.Prelude.{◌≡◌, length, slice_index};
+ghost use Rattle.std.specs.Prelude.{◌≡◌, length};
 ghost use Rattle.marks.specs.Numbers.{most_marks};
 ghost use Rattle.limits.specs.Limits.{light, weight_of};
-ghost use Rattle.std.proofs.Common.{arith};
-ghost use Rattle.std.proofs.lemmas.Bool.{le-leb, leb-true};
-ghost use Rattle.limits.specs.Weighing.{weight_part};
+ghost use Rattle.limits.specs.Smallness.{light_parts};
 
 use crate::limit::{Allows, Limit};
 use marks::MarkSet;
@@ -51,7 +49,5 @@ impl Allows for Weight {
 }
 
 impl Limit for Weight {
-    ghost parts = { λ limit x y l part h.
-        le-leb (weight_of limit.weights x) limit.cap
-        (omega (arith, leb-true (weight_of limit.weights y) limit.cap h, weight_part (λ b. slice_index limit.weights b) most_marks x y part)) };
+    ghost parts = { λ limit. light_parts limit.weights limit.cap };
 }

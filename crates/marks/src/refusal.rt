@@ -1,9 +1,9 @@
 // Why a call refuses, and where.
 ghost use Rattle.std.specs.Prelude.{◌≡◌, Decides, ◌==◌};
 ghost use Rattle.marks.specs.Refusals.{number_of, placed_at_two, placed_at, unplaced};
-ghost use Rattle.std.specs.Cmp.Rules.{comparing};
 ghost use Rattle.std.proofs.Common.{rules};
-ghost use Rattle.std.specs.Cmp as Keys;
+ghost use Rattle.std.specs.Cmp.{partial_equiv_from_equiv};
+ghost use Rattle.std.specs.Cmp.Rules.{comparing};
 ghost use Rattle.std.specs.Ordering.{on};
 
 /// The reasons for a refusal, each with the number by which users know it.
@@ -53,7 +53,7 @@ impl Reason {
 impl PartialEq for Reason {
     ghost eq = { on number_of ◌==◌ };
 
-    ghost laws = { Keys.partial_equiv_from_equiv (Prim.search (comparing, rules)) };
+    ghost laws = { partial_equiv_from_equiv (Prim.search (comparing, rules)) };
 
     fn eq(&self, other: &Reason) -> bool
         ensures value { result ≡ on number_of ◌==◌ self.now other.now }

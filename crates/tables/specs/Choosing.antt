@@ -27,6 +27,10 @@ module _ (marks : List Mark) (n : ℕ) where
   unfolding chosen
   chosen_length = length-take n (map (λ mark. mark.number) marks) ∙ ap (min n) (length-map marks (λ mark. mark.number))
 
+  -- where the marks are those of a choice of this width, so many are chosen
+  pub chosen_wide : length marks ≡ most_marks → InRange most_marks n → InRange most_marks (length (chosen marks n))
+  chosen_wide whole range = (omega (arith, chosen_length, whole, range.0), omega (arith, chosen_length, whole))
+
   pub chosen_at : (j : ℕ) (d : Mark) → j < n → j < length marks → slice_index (chosen marks n) j ≡ (slice_index_or marks j d).number
   unfolding chosen
   chosen_at j d h l = get_or-take n (map (λ mark. mark.number) marks) j 0 h ∙ get_or-map (λ mark. mark.number) marks j d 0 l

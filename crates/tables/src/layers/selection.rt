@@ -2,8 +2,7 @@
 ghost use Rattle.std.specs.Prelude.{◌≡◌};
 ghost use Rattle.tables.specs.Chosen.{chosen};
 ghost use Rattle.tables.specs.Layers.{selected};
-ghost use Rattle.std.proofs.Common.{arith};
-ghost use Rattle.tables.specs.Choosing.{chosen_length, selected_proper};
+ghost use Rattle.tables.specs.Choosing.{chosen_wide, selected_proper};
 
 use crate::layers::choice::Choice;
 use crate::table::{Rows, Table};
@@ -45,7 +44,5 @@ impl<T: Table> Table for Selection<T> {
     ghost proper = { λ s.
         let marks = s.choice.marks in
         let n = s.choice.width.number in
-        selected_proper (chosen marks n) (T.Rows.meaning s.below)
-        (omega (arith, chosen_length marks n, s.choice.whole, s.choice.width.range.0), omega (arith, chosen_length marks n, s.choice.whole))
-        (T.Table.proper s.below) };
+        selected_proper (chosen marks n) (T.Rows.meaning s.below) (chosen_wide marks n s.choice.whole s.choice.width.range) (T.Table.proper s.below) };
 }

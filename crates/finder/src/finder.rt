@@ -33,6 +33,7 @@ fn no_record() -> Record
     }
 }
 
+// Three of the calls are for this crate alone, until the law of all runs stands on a call that makes them all.
 impl<T: Table, W: Limit> Finder<T, W> {
     /// A finder that has handed out nothing and opened nothing.
     pub fn begin(table: T, limit: W, support: Support) -> Finder<T, W>
@@ -49,7 +50,7 @@ impl<T: Table, W: Limit> Finder<T, W> {
 
     /// Goes on to the next set of the list and writes its record into the first bytes of the slot; with no set left it answers End and leaves the slot.
     /// Refused: SHORT SLOT if the slot is shorter than a record, also where End is due; finder and slot are then as they were.
-    pub fn next(&mut self, slot: &mut [u8]) -> Result<Step, Refusal>
+    pub(crate) fn next(&mut self, slot: &mut [u8]) -> Result<Step, Refusal>
         ensures { NextDone T.Rows.meaning W.Allows.allowed self.old slot.old result slot.new self.new }
     {
         if slot.len() < RECORD_BYTES {
@@ -76,7 +77,7 @@ impl<T: Table, W: Limit> Finder<T, W> {
 
     /// Writes the last record again, also after End.
     /// Refused: SHORT SLOT if the slot is shorter than a record; NOTHING YET if no set came since begin or the last rewind. The slot is then as it was.
-    pub fn look(&self, slot: &mut [u8]) -> Result<(), Refusal>
+    pub(crate) fn look(&self, slot: &mut [u8]) -> Result<(), Refusal>
         ensures { LookDone T.Rows.meaning W.Allows.allowed self.now slot.old result slot.new }
     {
         if slot.len() < RECORD_BYTES {
@@ -90,7 +91,7 @@ impl<T: Table, W: Limit> Finder<T, W> {
     }
 
     /// Goes back to where the finder was after begin.
-    pub fn rewind(&mut self)
+    pub(crate) fn rewind(&mut self)
         ensures { self.new ≡ begun self.old.table self.old.limit self.old.support }
     {
         self.last = no_record();

@@ -41,9 +41,10 @@ pub struct Refusal {
 }
 
 impl Reason {
-    /// The number by which users know the reason.
+    /// The number by which users know the reason: no other reason has it.
     pub fn number(self) -> u64
-        ensures { result ≡ number_of self }
+        ensures value { result ≡ number_of self }
+        ensures own { (other : Reason) → number_of other ≡ result → other ≡ self }
     {
         self as u64
     }

@@ -3,15 +3,16 @@ use Rattle.std.proofs.Common.{◌≡◌, ℕ, ◌+◌, ◌^◌, ◌<◌, ◌≤�
 use lib.Count.{ones-le}
 use Rattle.std.proofs.lemmas.Bool.{both_ways, cases_Bool, eq-eqb}
 use Rattle.marks.specs.Numbers.{most_marks}
-use Rattle.marks.specs.Sets.{has, no_marks, all_below, both, part_of, with_bit, size_of, Lowest}
+use Rattle.marks.specs.Sets.{has, no_marks, all_below, both, either, minus, part_of, with_bit, size_of, Lowest}
 use Rattle.marks.proofs.Algebra.{disjoint_from_has}
 use Rattle.marks.specs.Parts.{part_test, part_all_below, part_from_has, part_le}
 use Rattle.closed.specs.Families.{Fits}
-use Rattle.closed.specs.Walks.{Narrowed, Free, Descent, free_marks}
+use Rattle.closed.specs.Walks.{Narrowed, Free, Done, Descent, free_marks}
 use Rattle.closed.specs.Closed.{Query, listed, clash, narrow_refusal, narrow_in, narrow_out}
 use Rattle.closed.proofs.Fitting.{fits_has, fits_lacks, fits_with, fits_below, fits_alive, in_every_below, in_none_below}
 use Rattle.closed.proofs.Narrowing.{narrow_exact}
 use Rattle.closed.proofs.Stepping.{small_below, free_lowest, free_none, free_falls, descent_from, descent_step, descent_done}
+use Rattle.finder.specs.declared.finder.descent.Start.{Start}
 use Rattle.finder.specs.declared.narrowing.Node.{Node}
 use Rattle.finder.specs.Descents.{opened_node, unless, one_more, Ready, Begun, Landed}
 use Rattle.finder.specs.Nodes.{node_of}
@@ -59,8 +60,16 @@ module _ (q : Query) where
     pub outs_small : o < 2 ^ 32
     outs_small = small_below n o small ready.outs_below
 
-    pub ready_free : (f : ℕ) → Lowest (free_marks n i o) f → Free n i o f
-    ready_free f low = free_lowest n i o small ins_small outs_small f low
+    -- the free marks, as the code finds them
+    module _ (free all width : ℕ) (free_is : free ≡ minus all (either i o)) (all_is : all ≡ all_below width) (width_is : width ≡ n) where
+      free_are : free ≡ free_marks n i o
+      free_are = free_is ∙ ap (λ a. minus a (either i o)) (all_is ∙ ap all_below width_is)
+
+      pub ready_free : (f : ℕ) → Lowest free f → Free n i o f
+      ready_free f low = free_lowest n i o small ins_small outs_small f (subst (λ s. Lowest s f) free_are low)
+
+      pub ready_done : free ≡ 0 → Done n i o
+      ready_done z = free_none n i o small ins_small outs_small (sym free_are ∙ z)
 
     module _ (f : ℕ) (free : Free n i o f) where
       child_fits : (x : ℕ) × Fits (listed q) n (with_bit i f) o x
@@ -98,24 +107,24 @@ module _ (q : Query) where
 -- ---- the loop
 
 -- the descent from `start` has come to `node`
-pub record Descending (q : Query) (start : Node) (turns opened : ℕ) (node : Node) (turned opened' : ℕ) : Type 0 where
+pub record Descending (q : Query) (start : Start) (opened : ℕ) (node : Node) (turned opened' : ℕ) : Type 0 where
   pub ready : Ready q node
-  pub from : (k b : ℕ) → Begun q k b start turns opened
-      → Descent (listed q) q.table.width k opened b start.ins.bits start.outs.bits node.ins.bits node.outs.bits turned opened'
+  pub from : (k b : ℕ) → Begun q k b start opened
+      → Descent (listed q) q.table.width k opened b start.node.ins.bits start.node.outs.bits node.ins.bits node.outs.bits turned opened'
 
-module _ (q : Query) (small : q.table.width ≤ most_marks) (start : Node) (turns opened : ℕ) where
-  pub descending_start : Ready q start → Descending q start turns opened start turns opened
+module _ (q : Query) (small : q.table.width ≤ most_marks) (start : Start) (opened : ℕ) where
+  pub descending_start : Ready q start.node → Descending q start opened start.node start.turns.bits opened
   descending_start r = record {
     ready = r;
-    from = λ k b s. descent_from (listed q) q.table.width k opened b start.ins.bits start.outs.bits turns s.reached r.tight s.counted;
+    from = λ k b s. descent_from (listed q) q.table.width k opened b start.node.ins.bits start.node.outs.bits start.turns.bits s.reached r.tight s.counted;
   }
 
-  module _ (node : Node) (turned opened' : ℕ) (d : Descending q start turns opened node turned opened') where
-    pub descending_more : (f : ℕ) → Lowest (free_marks q.table.width node.ins.bits node.outs.bits) f
+  module _ (node : Node) (turned opened' : ℕ) (d : Descending q start opened node turned opened') where
+    pub descending_more : (f : ℕ) → Free q.table.width node.ins.bits node.outs.bits f
         → (child : Node) (turned'' opened'' : ℕ) → child ≡ node_of q (with_bit node.ins.bits f) node.outs.bits → turned'' ≡ with_bit turned f → opened'' ≡ one_more opened'
-        → Descending q start turns opened child turned'' opened''
-    descending_more f low child turned'' opened'' e t c =
-        subst (λ x. Descending q start turns opened x turned'' opened'') (sym e)
+        → Descending q start opened child turned'' opened''
+    descending_more f free child turned'' opened'' e t c =
+        subst (λ x. Descending q start opened x turned'' opened'') (sym e)
         (record {
           ready = child_ready q small node d.ready f free;
           from = λ k b s. let was = d.from k b s in
@@ -125,23 +134,19 @@ module _ (q : Query) (small : q.table.width ≤ most_marks) (start : Node) (turn
               let exact : one_more opened' ≡ opened' + 1 = omega (arith, was.opened, s.few, ones-le 32 turned fits) in
               subst (λ x. step k b x opened'') (sym t)
               (subst (step k b (with_bit turned f)) (sym (c ∙ exact))
-              (descent_step (listed q) q.table.width k opened b start.ins.bits start.outs.bits node.ins.bits node.outs.bits turned opened' f
+              (descent_step (listed q) q.table.width k opened b start.node.ins.bits start.node.outs.bits node.ins.bits node.outs.bits turned opened' f
               (narrow_in q (with_bit node.ins.bits f) node.outs.bits) (narrow_out q (with_bit node.ins.bits f) node.outs.bits) was free
               (child_narrowed q small node d.ready f free)));
         })
       where
-        free : Free q.table.width node.ins.bits node.outs.bits f
-        free = ready_free q small node d.ready f low
-
         step : ℕ → ℕ → ℕ → ℕ → Type 0
         step k b x y =
-            Descent (listed q) q.table.width k opened b start.ins.bits start.outs.bits
+            Descent (listed q) q.table.width k opened b start.node.ins.bits start.node.outs.bits
             (narrow_in q (with_bit node.ins.bits f) node.outs.bits) (narrow_out q (with_bit node.ins.bits f) node.outs.bits) x y
 
-    pub descending_done : free_marks q.table.width node.ins.bits node.outs.bits ≡ 0
-        → Landed q start turns opened (record { set = node.ins; support = node.support; turns = record { bits = turned } }) opened'
+    pub descending_done : Done q.table.width node.ins.bits node.outs.bits
+        → Landed q start opened (record { set = node.ins; support = node.support; turns = record { bits = turned } }) opened'
     descending_done z = record {
       support_is = d.ready.support_is;
-      found = λ k b s. descent_done (listed q) q.table.width k opened b start.ins.bits start.outs.bits node.ins.bits node.outs.bits turned opened' (d.from k b s)
-          (free_none q.table.width node.ins.bits node.outs.bits small (ins_small q small node d.ready) (outs_small q small node d.ready) z);
+      found = λ k b s. descent_done (listed q) q.table.width k opened b start.node.ins.bits start.node.outs.bits node.ins.bits node.outs.bits turned opened' (d.from k b s) z;
     }

@@ -1,23 +1,25 @@
 -- The records of a list: which they are, that their bytes tell them, and what their numbers say of the list and of its tree.
-use Rattle.std.proofs.Common.{◌≡◌, ℕ, zero, suc, ◌+◌, ◌-◌, ◌*◌, ◌^◌, ◌<◌, ◌≤◌, false, eqb, List, [], ◌∷◌, ◌++◌, length, get_or, drop, sym, refl, ap, ◌∙◌, subst, add-one, arith, pow_mono}
+use Rattle.std.proofs.Common.{◌≡◌, ℕ, zero, suc, ◌+◌, ◌-◌, ◌*◌, ◌^◌, ◌<◌, ◌≤◌, false, eqb, List, [], ◌∷◌, ◌++◌, length, get_or, drop, Some, None, Option, sym, refl, ap, ◌∙◌, subst, add-one, arith, pow_mono}
 use Rattle.std.proofs.lemmas.List.FromFn.{length-map-range_with_len, get_or-map-range_with_len}
 use Rattle.std.proofs.lemmas.List.Sums.{length-filter, count_by-le-length}
 use Rattle.std.proofs.lemmas.Bool.{ne_eqb, cond-false}
-use Rattle.marks.specs.Sets.{no_marks}
-use Rattle.tables.specs.Meaning.{Meaning, Proper}
-use Rattle.tables.specs.Holding.{held_by, support_of}
+use Rattle.std.specs.Option.{option_map_or}
+use Rattle.tables.specs.Meaning.{Proper}
+use Rattle.tables.specs.Holding.{support_of}
 use Rattle.found.specs.declared.record.Record.{Record}
 use Rattle.found.specs.Records.{record_bytes, record_length, record_at, no_record}
 use Rattle.found.proofs.Laying.{record_back}
 use Rattle.closed.specs.Closed.{Query, listed, the_list}
-use Rattle.closed.specs.Families.{Listed, subsets, turns, turn_count}
+use Rattle.closed.specs.Families.{Listed, subsets, turn_count}
 use Rattle.closed.specs.Trees.{Tree, dead_end, leaf, fork, nodes, upto_leaf}
 use Rattle.closed.proofs.Ordered.{length_subsets, place_listed}
 use Rattle.closed.proofs.Stepping.{small_below}
 use Rattle.closed.proofs.Growing.{tree_law}
 use Rattle.closed.proofs.Bounding.{turn_count_bound, turn_count_next, entries_follow}
-use Rattle.finder.specs.Found.{how_many, record_of, records, record_at_place, turns_at_place, opened_at_end, written}
+use Rattle.finder.specs.Found.{how_many, record_of, records, kth_record, last_of, last_at_place, opened_at_end, written}
+use Rattle.finder.specs.declared.finder.Last.{Last}
 use Rattle.finder.specs.Runs.{ShowsItsPlace, nodes_of}
+use Rattle.tables.proofs.Passing.{support_few}
 
 -- one more is not 0
 more_is_some : (k : ℕ) → eqb (k + 1) 0 ≡ false
@@ -27,11 +29,6 @@ more_is_some k = ne_eqb (k + 1) 0 (λ e. omega arith)
 bytes_first : (r : Record) (rest : List ℕ) → record_at (record_bytes r ++ rest) 0 ≡ record_at (record_bytes r) 0
 unfolding record_bytes record_at
 bytes_first r rest = refl
-
--- the support of a set is at most how many charges there are
-support_few : (m : Meaning) (x : ℕ) → support_of m x ≤ length m.rows
-unfolding support_of
-support_few m x = omega (arith, length-filter (held_by x) m.rows, count_by-le-length (held_by x) m.rows)
 
 -- up to a leaf there are no more nodes than there are
 upto_few : (ts : List Tree) (k : ℕ) → upto_leaf ts k ≤ length ts
@@ -60,30 +57,32 @@ module _ (q : Query) where
   unfolding records
   get_or_records k h = get_or-map-range_with_len found_at 0 (how_many q) k k no_record h (omega arith)
 
-  pub record_at_none : record_at_place q 0 ≡ no_record
-  unfolding record_at_place
-  record_at_none = refl
+  pub kth_more : (k : ℕ) → k < how_many q → kth_record q (k + 1) ≡ record_of q (k + 1) (get_or (the_list q) k 0)
+  kth_more k h = let e : k + 1 - 1 ≡ k = omega arith in ap (λ j. get_or (records q) j no_record) e ∙ get_or_records k h
 
-  pub record_at_more : (k : ℕ) → k < how_many q → record_at_place q (k + 1) ≡ record_of q (k + 1) (get_or (the_list q) k 0)
-  unfolding record_at_place
-  record_at_more k h =
-      let e : k + 1 - 1 ≡ k = omega arith in
-      cond-false (eqb (k + 1) 0) no_record (get_or (records q) (k + 1 - 1) no_record) (more_is_some k)
-      ∙ ap (λ j. get_or (records q) j no_record) e ∙ get_or_records k h
+  pub last_at_none : last_at_place q 0 ≡ None
+  unfolding last_at_place
+  last_at_none = refl
 
-  pub turns_at_none : turns_at_place q 0 ≡ no_marks
-  unfolding turns_at_place
-  turns_at_none = refl
+  pub last_at_more : (k : ℕ) → k < how_many q → last_at_place q (k + 1) ≡ Some (last_of q (record_of q (k + 1) (get_or (the_list q) k 0)))
+  unfolding last_at_place
+  last_at_more k h = cond-false (eqb (k + 1) 0) None (Some (last_of q (kth_record q (k + 1)))) (more_is_some k) ∙ ap (λ r. Some (last_of q r)) (kth_more k h)
 
-  pub turns_at_more : (k : ℕ) → k < how_many q → turns_at_place q (k + 1) ≡ turns (listed q) q.table.width (get_or (the_list q) k 0)
-  unfolding turns_at_place
-  turns_at_more k h =
-      cond-false (eqb (k + 1) 0) no_marks (turns (listed q) q.table.width (record_at_place q (k + 1)).set.bits) (more_is_some k)
-      ∙ ap (λ r. turns (listed q) q.table.width r.set.bits) (record_at_more k h)
+  -- where a set is remembered, one came
+  pub last_at_some : (k : ℕ) (last : Last) → last_at_place q k ≡ Some last → (1 ≤ k) × (last ≡ last_of q (kth_record q k))
+  unfolding last_at_place
+  last_at_some zero last e = absurd (let z : ◌≡◌ {A = ℕ} 0 1 = cc in omega arith)
+  last_at_some (suc k) last e =
+      let some : Some (last_of q (kth_record q (suc k))) ≡ Some last =
+      sym (cond-false (eqb (suc k) 0) None (Some (last_of q (kth_record q (suc k)))) (ne_eqb (suc k) 0 (λ z. omega arith))) ∙ e in
+      (omega arith, cc)
 
-  pub record_at_ordinal : (k : ℕ) → k ≤ how_many q → (record_at_place q k).ordinal ≡ k
-  record_at_ordinal zero h = ap (λ r. r.ordinal) record_at_none
-  record_at_ordinal (suc k) h = subst (λ j. (record_at_place q j).ordinal ≡ j) (add-one k) (ap (λ r. r.ordinal) (record_at_more k (omega arith)))
+  abbrev ordinal_in : Option Last → ℕ
+  ordinal_in last = option_map_or (λ l. l.found.ordinal) last 0
+
+  pub last_at_ordinal : (k : ℕ) → k ≤ how_many q → option_map_or (λ l. l.found.ordinal) (last_at_place q k) 0 ≡ k
+  last_at_ordinal zero h = ap ordinal_in last_at_none
+  last_at_ordinal (suc k) h = subst (λ j. ordinal_in (last_at_place q j) ≡ j) (add-one k) (ap ordinal_in (last_at_more k (omega arith)))
 
   -- ---- their numbers fit
 
@@ -154,7 +153,7 @@ module _ (q : Query) where
       by : (k : ℕ) → how_many q ≡ k → opened_at_end q k ≡ length (nodes_of q)
       by zero e = ap (λ t. length (nodes t)) (sym ((tree_law (listed q) q.table.width).empty e))
       by (suc k) e =
-          let here : (record_at_place q (suc k)).opened ≡ (found_at k).opened =
-          subst (λ j. (record_at_place q j).opened ≡ (found_at k).opened) (add-one k) (ap (λ r. r.opened) (record_at_more k (omega arith))) in
-          cond-false (eqb (suc k) 0) 1 (record_at_place q (suc k)).opened (ne_eqb (suc k) 0 (λ z. omega arith))
+          let here : (kth_record q (suc k)).opened ≡ (found_at k).opened =
+          subst (λ j. (kth_record q j).opened ≡ (found_at k).opened) (add-one k) (ap (λ r. r.opened) (kth_more k (omega arith))) in
+          cond-false (eqb (suc k) 0) 1 (kth_record q (suc k)).opened (ne_eqb (suc k) 0 (λ z. omega arith))
           ∙ omega (arith, opened_counts k (omega arith), upto_few (nodes_of q) (k + 1 - 1), (tree_law (listed q) q.table.width).all (omega arith))

@@ -1,32 +1,29 @@
 -- One pass over the charges of a table, which keeps the record of a set and those of the set with each mark added.
-use Rattle.std.proofs.Common.{◌≡◌, ℕ, ◌+◌, ◌-◌, ◌^◌, ◌<◌, ◌≤◌, min, Bool, true, false, cond, not, ◌&&◌, eqb, List, length, get_or, take, set, replicate, Some, None, Option, sym, refl, ap, ◌∙◌, subst, ap₂, ⊎_elim, zero-add, arith}
-use Rattle.std.specs.List.{range_with_len}
+use Rattle.std.proofs.Common.{◌≡◌, ℕ, ◌+◌, ◌^◌, ◌<◌, ◌≤◌, Bool, true, false, cond, not, ◌&&◌, eqb, List, length, get_or, set, replicate, sym, refl, ap, ◌∙◌, subst, ap₂, ⊎_elim, arith}
 use Rattle.std.proofs.lemmas.Nat.{pow_below}
-use Rattle.std.proofs.lemmas.List.FromFn.{length-range_with_len, get_or-range_with_len}
-use Rattle.std.proofs.lemmas.List.{length-set, get_or-set_same, get_or-set_other, length-map, get_or-map, length-take, take_all, length-replicate, get_or-replicate, ext_get_or}
-use Rattle.std.proofs.lemmas.List.Sums.{length-filter, count_by-le-length}
+use Rattle.std.proofs.lemmas.List.FromFn.{length-map-range_with_len, get_or-map-range_with_len}
+use Rattle.std.proofs.lemmas.List.{length-set, get_or-set_same, get_or-set_other, length-replicate, get_or-replicate, ext_get_or}
 use Rattle.std.proofs.lemmas.Bool.{both_ways, cases_Bool, cases_eq, and_from, and_parts, or_right, eq-eqb, ne_eqb}
-use Rattle.marks.specs.declared.numbers.charge.Charge.{Charge}
 use Rattle.marks.specs.Numbers.{most_marks, most_charges}
-use Rattle.marks.specs.Sets.{has, both, part_of, PartOf, with_bit, without_bit}
+use Rattle.marks.specs.Sets.{has, part_of, PartOf, with_bit, without_bit}
 use Rattle.marks.proofs.Algebra.{minus_part}
-use Rattle.marks.specs.Members.{has_none}
-use Rattle.marks.specs.Parts.{part_fact, part_test, part_has, part_trans, part_refl, has_with, has_without, part_or_left, with_part}
+use Rattle.marks.proofs.Enumerated.{Follows}
+use Rattle.marks.specs.Members.{has_none, has_below}
+use Rattle.marks.specs.Parts.{part_fact, part_test, part_has, part_trans, has_with, has_without, part_or_left, with_part}
 use Rattle.tables.specs.declared.holding.Holding.{Holding}
-use Rattle.tables.specs.Holding.{held_by, support_of, closure_of, holding_of, unheld, joined, ending_after}
-use Rattle.tables.specs.Meaning.{Meaning, Proper, count_of, row_of}
-use Rattle.tables.proofs.Passing.{support_none, support_more, closure_none, closure_more, passed, Among, First, Next, first_among, first_passed, next_among, next_passed}
+use Rattle.tables.specs.Holding.{held_by, holding_of, unheld, joined, ending_after}
+use Rattle.tables.specs.Meaning.{Meaning, count_of}
+use Rattle.tables.proofs.Passing.{holding_none, holding_more}
 use Rattle.finder.specs.declared.tally.Tally.{Tally}
 use Rattle.finder.specs.Tallies.{no_holding, for_each_mark, tally_of, joined_each, noted}
 
 -- ---- one record for each mark
 
 at_mark : (f : ℕ → Holding) (b : ℕ) → b < most_marks → get_or (for_each_mark f) b no_holding ≡ f b
-at_mark f b h =
-    get_or-map f (range_with_len 0 most_marks) b 0 no_holding (omega (arith, length-range_with_len 0 most_marks)) ∙ ap f (get_or-range_with_len 0 most_marks b 0 h ∙ zero-add b)
+at_mark f b h = get_or-map-range_with_len f 0 most_marks b b no_holding h (omega arith)
 
 each_long : (f : ℕ → Holding) → length (for_each_mark f) ≡ most_marks
-each_long f = length-map (range_with_len 0 most_marks) f ∙ length-range_with_len 0 most_marks
+each_long f = length-map-range_with_len f 0 most_marks
 
 -- known mark by mark
 each_is : (marks : List Holding) (f : ℕ → Holding) → length marks ≡ most_marks → ((b : ℕ) → b < most_marks → get_or marks b no_holding ≡ f b)
@@ -44,13 +41,6 @@ pub record Joining (row rest : ℕ) (old new : List Holding) : Type 0 where
   pub each : (b : ℕ) → b < most_marks
       → get_or new b no_holding ≡ cond (has row b && not (has rest b)) (joined row (get_or old b no_holding)) (get_or old b no_holding)
 
-pub joining_none : (row : ℕ) (old : List Holding) → length old ≡ most_marks → Joining row row old old
-joining_none row old l = record {
-  part = part_refl row;
-  long = l;
-  each = λ b h. let f : (has row b && not (has row b)) ≡ false = grind arith in rw f;
-}
-
 pub joining_all : (row rest : ℕ) (old new : List Holding) → Joining row rest old new → rest ≡ 0 → new ≡ joined_each row old
 unfolding joined_each
 joining_all row rest old new j e = each_is new (λ b. cond (has row b) (joined row (get_or old b no_holding)) (get_or old b no_holding)) j.long at
@@ -61,16 +51,26 @@ joining_all row rest old new j e = each_is new (λ b. cond (has row b) (joined r
         let f : (has row b && not (has rest b)) ≡ has row b = grind arith in
         j.each b h ∙ rw f
 
-pub joining_more : (row rest rest' b : ℕ) (old new : List Holding) (v : Holding) → rest < 2 ^ 32 → b < most_marks → has rest b ≡ true
-    → rest' ≡ without_bit rest b → v ≡ joined row (get_or new b no_holding) → Joining row rest old new → Joining row rest' old (set new b v)
-joining_more row rest rest' b old new v s h held less e j =
-    subst (λ r. Joining row r old (set new b v)) (sym less)
+pub joining_more : (row rest b rest' : ℕ) → rest < 2 ^ 32 → Follows rest b rest' → (old new : List Holding) (at : ℕ) (v : Holding) → at ≡ b
+    → v ≡ joined row (get_or new at no_holding) → Joining row rest old new → Joining row rest' old (set new at v)
+joining_more row rest b rest' s next old new at v is f j =
+    subst (λ i. Joining row rest' old (set new i v)) (sym is)
+    (subst (λ r. Joining row r old (set new b v)) (sym next.rest)
     (record {
       part = part_trans (without_bit rest b) rest row (minus_part rest (2 ^ b) s (pow_below b 32 h)) j.part;
       long = length-set new b v ∙ j.long;
       each = λ k i. ⊎_elim (here k i) (there k i) (cases_eq k b);
-    })
+    }))
   where
+    held : has rest b ≡ true
+    held = next.lowest.held
+
+    h : b < most_marks
+    h = has_below 32 rest b s held
+
+    e : v ≡ joined row (get_or new b no_holding)
+    e = f ∙ ap (λ i. joined row (get_or new i no_holding)) is
+
     gone : (k : ℕ) → has (without_bit rest b) k ≡ (has rest k && not (eqb b k))
     gone k = has_without rest b k s h
 
@@ -114,30 +114,6 @@ held_with s row b = ⊎_elim yes no (cases_Bool (part_of (with_bit s b) row))
         absurd (both_ways (part_of (with_bit s b) row) e (part_test (with_bit s b) row (with_part s row b (part_fact s row p.0) p.1))))
         (λ f. f) (cases_Bool (part_of s row && has row b)))
 
-module _ (m : Meaning) (s : ℕ) where
-  support_few : (k : ℕ) → support_of (ending_after k m) s ≤ k
-  unfolding support_of
-  support_few k = omega (arith, length-filter (held_by s) (take k m.rows), count_by-le-length (held_by s) (take k m.rows), length-take k m.rows)
-
-  holding_more : (k : ℕ) → k < count_of m → count_of m ≤ most_charges
-      → holding_of (ending_after (k + 1) m) s
-      ≡ cond (held_by s (get_or m.rows k 0)) (joined (get_or m.rows k 0) (holding_of (ending_after k m) s)) (holding_of (ending_after k m) s)
-  holding_more k h few =
-      ap₂ made (support_more m s k h) (closure_more m s k h) ∙ by (held_by s (get_or m.rows k 0))
-    where
-      made : ℕ → ℕ → Holding
-      made x y = record { support = x; closure = record { bits = y } }
-
-      by : (t : Bool)
-          → made (support_of (ending_after k m) s + cond t 1 0) (cond t (both (closure_of (ending_after k m) s) (get_or m.rows k 0)) (closure_of (ending_after k m) s))
-          ≡ cond t (joined (get_or m.rows k 0) (holding_of (ending_after k m) s)) (holding_of (ending_after k m) s)
-      by true =
-          let e : support_of (ending_after k m) s + 1 ≡ min (support_of (ending_after k m) s + 1) (2 ^ 32 - 1) = omega (arith, support_few k) in
-          ap (λ x. made x (both (closure_of (ending_after k m) s) (get_or m.rows k 0))) e
-      by false =
-          let e : support_of (ending_after k m) s + 0 ≡ support_of (ending_after k m) s = omega arith in
-          ap (λ x. made x (closure_of (ending_after k m) s)) e
-
 -- ---- the pass
 
 abbrev made : Holding → List Holding → Tally
@@ -147,24 +123,20 @@ module _ (m : Meaning) (s : ℕ) where
   abbrev after : ℕ → Meaning
   after k = ending_after k m
 
-  tally_none : (n : ℕ) → n ≡ m.width → (none : Holding) → none ≡ unheld n → record { own = none; marks = replicate most_marks none } ≡ tally_of (after 0) s
+  pub tally_none : (n : ℕ) (none : Holding) → n ≡ m.width → none ≡ unheld n → record { own = none; marks = replicate most_marks none } ≡ tally_of (after 0) s
   unfolding tally_of
-  tally_none n w none e =
-      ap₂ made (start s)
+  tally_none n none w e =
+      ap₂ made (e ∙ holding_none m s n w)
       (each_is (replicate most_marks none) (λ b. holding_of (after 0) (with_bit s b)) (length-replicate most_marks none)
-      (λ b h. get_or-replicate most_marks b none no_holding h ∙ start (with_bit s b)))
-    where
-      start : (x : ℕ) → none ≡ holding_of (after 0) x
-      start x =
-          e ∙ ap unheld w ∙ sym (ap₂ (λ (a b : ℕ). record { support = a; closure = record { bits = b } }) (support_none m x) (closure_none m x))
+      (λ b h. get_or-replicate most_marks b none no_holding h ∙ e ∙ holding_none m (with_bit s b) n w))
 
-  tally_more : (k : ℕ) → k < count_of m → count_of m ≤ most_charges → noted s (get_or m.rows k 0) (tally_of (after k) s) ≡ tally_of (after (k + 1)) s
+  pub tally_more : count_of m ≤ most_charges → (k : ℕ) → k < count_of m → noted s (get_or m.rows k 0) (tally_of (after k) s) ≡ tally_of (after (k + 1)) s
   unfolding tally_of joined_each
-  tally_more k h few =
+  tally_more few k h =
       by (held_by s row) refl
-      ∙ ap₂ made (sym (holding_more m s k h few))
+      ∙ ap₂ made (holding_more m s few k h)
       (each_is (for_each_mark mark) (λ b. holding_of (after (k + 1)) (with_bit s b)) (each_long mark)
-      (λ b l. at_mark mark b l ∙ ap (λ t. cond t (joined row (old b)) (old b)) (sym (held_with s row b)) ∙ sym (holding_more m (with_bit s b) k h few)))
+      (λ b l. at_mark mark b l ∙ ap (λ t. cond t (joined row (old b)) (old b)) (sym (held_with s row b)) ∙ holding_more m (with_bit s b) few k h))
     where
       row : ℕ
       row = get_or m.rows k 0
@@ -190,42 +162,7 @@ module _ (m : Meaning) (s : ℕ) where
           (λ b l. at_mark next b l ∙ ap (λ x. cond (has row b) (joined row x) x) (at_mark old b l)))
       by false e = refl
 
-  tally_all : tally_of (after (count_of m)) s ≡ tally_of m s
-  tally_all = ap (λ rows. tally_of (record { width = m.width; rows = rows }) s) (take_all (count_of m) m.rows (omega arith))
-
 -- what the tally says of the set with a mark added
 pub tally_with : (m : Meaning) (s b : ℕ) → b < most_marks → get_or (tally_of m s).marks b no_holding ≡ holding_of m (with_bit s b)
 unfolding tally_of
 tally_with m s b h = at_mark (λ b. holding_of m (with_bit s b)) b h
-
--- the tally is that of the charges that are behind
-pub record Tallied (m : Meaning) (s count : ℕ) (next : Option Charge) (tally : Tally) : Type 0 where
-  pub all : count ≡ count_of m
-  pub among : Among count next
-  pub tally_is : tally ≡ tally_of (ending_after (passed count next) m) s
-
--- at the first charge
-pub tallied_none : (m : Meaning) (s count : ℕ) (next : Option Charge) (n : ℕ) (none : Holding) → count ≡ count_of m → First count next
-    → n ≡ m.width → none ≡ unheld n → Tallied m s count next (record { own = none; marks = replicate most_marks none })
-tallied_none m s count next n none e f w u = record {
-  all = e;
-  among = first_among count next f;
-  tally_is = tally_none m s n w none u ∙ sym (ap (λ k. tally_of (ending_after k m) s) (first_passed count next f));
-}
-
--- at the charge after
-pub tallied_more : (m : Meaning) → Proper m → (s count : ℕ) (charge : Charge) (next : Option Charge) (tally tally' : Tally) (row : ℕ)
-    → Tallied m s count (Some charge) tally → Next count charge next → row ≡ row_of m charge.number → tally' ≡ noted s row tally
-    → Tallied m s count next tally'
-tallied_more m proper s count charge next tally tally' row before step is e = record {
-  all = before.all;
-  among = next_among count charge next step;
-  tally_is = e ∙ ap₂ (noted s) is before.tally_is
-      ∙ tally_more m s (charge.number - 1) (omega (arith, before.all, before.among, charge.range.0)) proper.few
-      ∙ ap (λ k. tally_of (ending_after k m) s)
-      (sym (next_passed count charge next before.among (omega (arith, before.all, proper.few)) step));
-}
-
--- past the last charge
-pub tallied_all : (m : Meaning) (s count : ℕ) (next : Option Charge) (tally : Tally) → Tallied m s count next tally → next ≡ None → tally ≡ tally_of m s
-tallied_all m s count next tally t e = t.tally_is ∙ ap (λ k. tally_of (ending_after k m) s) (ap (passed count) e ∙ t.all) ∙ tally_all m s

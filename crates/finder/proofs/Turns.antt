@@ -1,48 +1,37 @@
 -- From where a finder stands to the node that is opened next.
-use Rattle.std.proofs.Common.{◌≡◌, ℕ, suc, ◌+◌, ◌-◌, ◌*◌, ◌^◌, ◌<◌, ◌≤◌, min, Bool, true, false, eqb, [], ◌∷◌, get_or, IfSome, Some, None, Option, sym, refl, ap, ◌∙◌, subst, ap₂, inl, inr, arith, pow_pos}
+use Rattle.std.proofs.Common.{◌≡◌, ℕ, suc, ◌+◌, ◌-◌, ◌*◌, ◌^◌, ◌<◌, ◌≤◌, min, false, eqb, get_or, IfSome, Some, None, Option, sym, refl, ap, ◌∙◌, subst, inl, inr, arith, pow_pos}
 use Rattle.std.proofs.lemmas.Bool.{or_parts, not-false, ne_eqb}
 use Rattle.std.proofs.lemmas.Bool.Decides.{nat_tests}
-use Rattle.marks.specs.declared.refusal.Reason.TheVariants.{Clash, DeadEnd}
+use Rattle.std.specs.Option.{option_map_or}
 use Rattle.marks.specs.declared.refusal.Refusal.{Refusal}
 use Rattle.marks.specs.Numbers.{most_marks}
-use Rattle.marks.specs.Refusals.{unplaced, due_if, first_due}
 use Rattle.marks.specs.Sets.{no_marks, without_bit, size_of, Highest}
 use Rattle.marks.proofs.Algebra.{below_from_has}
-use Rattle.marks.proofs.Due.{none_due}
 use Rattle.marks.specs.Members.{has_below}
 use Rattle.marks.specs.Parts.{part_fact, below_from_part, part_from_has, part_le}
 use Rattle.marks.specs.Sizes.{without_is}
 use Rattle.tables.specs.Meaning.{Proper}
 use Rattle.tables.specs.Holding.{support_of}
-use Rattle.found.specs.declared.record.Record.{Record}
-use Rattle.closed.specs.Families.{Fits, dead, part_in, turns, turn_count}
+use Rattle.closed.specs.Families.{Fits, part_in, turns, turn_count}
 use Rattle.closed.specs.Walks.{Narrowed, Reached, Opened, Descended, At, aside_out}
-use Rattle.closed.specs.Closed.{Query, listed, the_list, clash, above, narrow_refusal}
+use Rattle.closed.specs.Closed.{Query, listed, the_list, above, narrow_refusal}
 use Rattle.closed.proofs.Fitting.{alive_some}
 use Rattle.closed.proofs.Stepping.{small_below, has_aside_out, aside_some, reached_aside, opened_root, opened_out, at_listed, at_first, at_next, at_last, at_none}
 use Rattle.closed.proofs.Turning.{turns_are, at_turns}
 use Rattle.closed.proofs.Walking.{first_narrowed, reached_root, reached_narrowed}
+use Rattle.finder.specs.declared.finder.Last.{Last}
 use Rattle.finder.specs.declared.finder.descent.Start.{Start}
 use Rattle.finder.specs.declared.narrowing.Node.{Node}
 use Rattle.finder.specs.Descents.{opened_node, unless, one_more, start_of, Ready, Turned, TurnedAside}
-use Rattle.finder.specs.Found.{how_many, record_of, record_at_place, turns_at_place, opened_at_end}
+use Rattle.finder.specs.Found.{how_many, record_of, kth_record, last_of, last_at_place, opened_at_end}
 use Rattle.finder.specs.Nodes.{node_of}
 use Rattle.finder.proofs.Descending.{fits_opened, fits_narrowed, fits_ready}
-use Rattle.finder.proofs.Listing.{record_at_none, record_at_more, record_at_ordinal, turns_at_more, set_listed, turns_few, how_many_few}
-
--- which tests failed where nothing is refused
-neither_due : (a b : Bool) (x y : Refusal) → first_due (due_if a x ∷ due_if b y ∷ []) ≡ None → (a ≡ false) × (b ≡ false)
-neither_due true b x y e = absurd (none_due (Some x) x e refl)
-neither_due false true x y e = absurd (none_due (Some y) y e refl)
-neither_due false false x y e = (refl, refl)
+use Rattle.finder.proofs.Narrows.{accepted_parts}
+use Rattle.finder.proofs.Listing.{kth_more, last_at_more, last_at_some, last_at_ordinal, set_listed, turns_few, how_many_few}
 
 module _ (q : Query) where
   abbrev n : ℕ
   n = q.table.width
-
-  accepted_parts : (i o : ℕ) → narrow_refusal q i o ≡ None → (clash n i o ≡ false) × (dead (listed q) n i o ≡ false)
-  unfolding narrow_refusal
-  accepted_parts i o e = neither_due (clash n i o) (dead (listed q) n i o) (unplaced Clash) (unplaced DeadEnd) e
 
   -- what is opened is fitted by some set
   record Fitted (i o : ℕ) (node : Node) : Type 0 where
@@ -56,7 +45,7 @@ module _ (q : Query) where
     where
       by : (r : Option Refusal) → narrow_refusal q i o ≡ r → unless r (node_of q i o) ≡ Some node → Fitted i o node
       by None f g =
-          let parts = accepted_parts i o f in
+          let parts = accepted_parts q i o f in
           let x = alive_some (listed q) n i o parts.1 in
           record {
             some = x.0;
@@ -161,11 +150,6 @@ module _ (q : Query) where
 
   -- ---- as the code has it
 
-  -- what a start is made of
-  pub start_is : (x t b ins outs turned : ℕ) (r : Option Node) → ins ≡ part_in x b → outs ≡ aside_out x b → turned ≡ without_bit t b → r ≡ opened_node q ins outs
-      → start_of r turned ≡ start_of (opened_node q (part_in x b) (aside_out x b)) (without_bit t b)
-  start_is x t b ins outs turned r e f h is = ap₂ start_of (is ∙ ap₂ (opened_node q) e f) h
-
   pub start_ready : (i o t : ℕ) (r : Option Start) → r ≡ start_of (opened_node q i o) t → IfSome r (λ start. Ready q start.node)
   start_ready i o t r e = by (opened_node q i o) refl r e
     where
@@ -181,14 +165,15 @@ module _ (q : Query) where
   aside_ready x t opened r opened' (inr e) = start_ready (part_in x e.0) (aside_out x e.0) (without_bit t e.0) r e.2
 
   -- after a set, the end has the numbers of that set
-  opened_end_some : (j k : ℕ) → j + 1 ≡ k → opened_at_end q k ≡ (record_at_place q k).opened
+  opened_end_some : (j k : ℕ) → j + 1 ≡ k → opened_at_end q k ≡ (kth_record q k).opened
   opened_end_some j k e = let z : eqb k 0 ≡ false = ne_eqb k 0 (omega arith) in rw z
 
   -- the next set, as what is remembered of it
   pub remembered : (k : ℕ) → Proper q.table → (x t c support last ordinal : ℕ) → At (listed q) n (k + 1) x t c → support ≡ support_of q.table x → last ≡ k
       → ordinal ≡ min (last + 1) (2 ^ 64 - 1)
-      → (k < how_many q) × (record { set = record { bits = x }; support = support; ordinal = ordinal; opened = c } ≡ record_at_place q (k + 1)) × (t ≡ turns_at_place q (k + 1))
-  remembered k proper x t c support last ordinal at s l o = (here, same, turned ∙ ap (turns (listed q) n) (sym entry) ∙ sym (turns_at_more q k here))
+      → (k < how_many q)
+      × (Some (record { found = record { set = record { bits = x }; support = support; ordinal = ordinal; opened = c }; turns = record { bits = t } }) ≡ last_at_place q (k + 1))
+  remembered k proper x t c support last ordinal at s l o = (here, same)
     where
       here : k < how_many q
       here = let w = at.within in omega arith
@@ -205,76 +190,89 @@ module _ (q : Query) where
       opened : c ≡ 2 * (k + 1) - 1 + turn_count (listed q) n x
       opened = let a = at.opened in let e = ap size_of turned in omega arith
 
-      same : record { set = record { bits = x }; support = support; ordinal = ordinal; opened = c } ≡ record_at_place q (k + 1)
+      same : Some (record { found = record { set = record { bits = x }; support = support; ordinal = ordinal; opened = c }; turns = record { bits = t } }) ≡ last_at_place q (k + 1)
       same =
-          let r : Record = record { set = record { bits = x }; support = support; ordinal = ordinal; opened = c } in
-          let is : r ≡ record_of q (k + 1) x = cc (s, counted, opened) in
-          is ∙ ap (record_of q (k + 1)) (sym entry) ∙ sym (record_at_more q k here)
+          let last : Last = record { found = record { set = record { bits = x }; support = support; ordinal = ordinal; opened = c }; turns = record { bits = t } } in
+          let is : last ≡ last_of q (record_of q (k + 1) x) = cc (s, counted, opened, turned) in
+          ap (λ l. Some l) (is ∙ ap (λ y. last_of q (record_of q (k + 1) y)) (sym entry)) ∙ sym (last_at_more q k here)
 
   -- where the finder stands is enough to go on
-  stands_at : (j : ℕ) → j < how_many q → (last : Record) (t : ℕ) → last ≡ record_at_place q (j + 1) → t ≡ turns_at_place q (j + 1)
-      → At (listed q) n (j + 1) last.set.bits t last.opened
-  stands_at j h last t e f =
-      subst (λ (r : Record). At (listed q) n (j + 1) r.set.bits t r.opened) (sym (e ∙ record_at_more q j h))
-      (subst (λ s. At (listed q) n (j + 1) x s (2 * (j + 1) - 1 + turn_count (listed q) n x)) (sym (f ∙ turns_at_more q j h))
+  stands_at : (j : ℕ) → j < how_many q → (last : Last) → last ≡ last_of q (kth_record q (j + 1)) → At (listed q) n (j + 1) last.found.set.bits last.turns.bits last.found.opened
+  stands_at j h last e =
+      subst (λ (l : Last). At (listed q) n (j + 1) l.found.set.bits l.turns.bits l.found.opened) (sym (e ∙ ap (last_of q) (kth_more q j h)))
       (record {
         counted = omega arith;
         within = omega arith;
         entry = ap (λ i. get_or (the_list q) i 0) (let i : j + 1 - 1 ≡ j = omega arith in i);
         turns = turns_are (listed q) n x (set_listed q j h).below;
         opened = omega arith;
-      }))
+      })
     where
       x : ℕ
       x = get_or (the_list q) j 0
 
-  module _ (k : ℕ) (within : k ≤ how_many q) (last : Record) (t : ℕ) (last_is : last ≡ record_at_place q k) (turns_are_at : t ≡ turns_at_place q k) where
-    pub ordinal_is : last.ordinal ≡ k
-    ordinal_is = ap (λ r. r.ordinal) last_is ∙ record_at_ordinal q k within
+  module _ (k : ℕ) (within : k ≤ how_many q) (last : Option Last) (last_is : last ≡ last_at_place q k) where
+    pub ordinal_is : option_map_or (λ l. l.found.ordinal) last 0 ≡ k
+    ordinal_is = ap (λ l. option_map_or (λ l. l.found.ordinal) l 0) last_is ∙ last_at_ordinal q k within
 
-    pub turn_at_root : last.ordinal ≡ 0 → (entry exit : ℕ) → entry ≡ last.opened → exit ≡ one_more entry
+    pub turn_at_root : last ≡ None → (entry exit : ℕ) → entry ≡ option_map_or (λ l. l.found.opened) last 0 → exit ≡ one_more entry
         → (r : Option Start) → r ≡ start_of (opened_node q no_marks no_marks) no_marks → Turned q k r exit
-    turn_at_root zero' entry exit e x r is =
-        let k_is : k ≡ 0 = sym ordinal_is ∙ zero' in
-        let none : entry ≡ 0 = e ∙ ap (λ r. r.opened) (last_is ∙ ap (record_at_place q) k_is ∙ record_at_none q) in
+    turn_at_root none entry exit e x r is =
+        let k_is : k ≡ 0 = sym ordinal_is ∙ ap (λ l. option_map_or (λ l. l.found.ordinal) l 0) none in
+        let zero' : entry ≡ 0 = e ∙ ap (λ l. option_map_or (λ l. l.found.opened) l 0) none in
         let one : exit ≡ 1 = omega arith in
         subst (λ j. Turned q j r exit) (sym k_is)
         (subst (λ s. Turned q 0 s exit) (sym is) (subst (Turned q 0 (start_of (opened_node q no_marks no_marks) no_marks)) (sym one) (root_turned (opened_node q no_marks no_marks) refl)))
 
-    pub turn_from : Proper q.table → (last.ordinal ≡ 0 → ⊥) → (entry exit : ℕ) → entry ≡ last.opened → (r : Option Start)
-        → TurnedAside q last.set.bits t entry r exit → Turned q k r exit
-    turn_from proper some entry exit e r turned = by turned
+    pub turn_from : Proper q.table → (set : Last) → last ≡ Some set → (entry exit : ℕ) → entry ≡ option_map_or (λ l. l.found.opened) last 0 → (r : Option Start)
+        → TurnedAside q set.found.set.bits set.turns.bits entry r exit → Turned q k r exit
+    turn_from proper set some entry exit e r turned = by turned
       where
+        came : (1 ≤ k) × (set ≡ last_of q (kth_record q k))
+        came = last_at_some q k set (sym last_is ∙ some)
+
+        x : ℕ
+        x = set.found.set.bits
+
+        t : ℕ
+        t = set.turns.bits
+
+        c : ℕ
+        c = set.found.opened
+
+        entry_is : entry ≡ c
+        entry_is = e ∙ ap (λ l. option_map_or (λ l. l.found.opened) l 0) some
+
         j : ℕ
         j = k - 1
 
         k_is : j + 1 ≡ k
-        k_is = let o = ordinal_is in let s = some in omega arith
+        k_is = omega (arith, came.0)
 
         here : j < how_many q
-        here = let w = within in let i = k_is in omega arith
+        here = omega (arith, within, came.0)
 
-        at : At (listed q) n k last.set.bits t last.opened
-        at =
-            subst (λ i. At (listed q) n i last.set.bits t last.opened) k_is
-            (stands_at j here last t (last_is ∙ ap (record_at_place q) (sym k_is)) (turns_are_at ∙ ap (turns_at_place q) (sym k_is)))
+        set_is : set ≡ last_of q (kth_record q (j + 1))
+        set_is = came.1 ∙ ap (λ i. last_of q (kth_record q i)) (sym k_is)
 
-        opened_is : last.opened ≡ 2 * (j + 1) - 1 + turn_count (listed q) n (get_or (the_list q) j 0)
-        opened_is = ap (λ r. r.opened) (last_is ∙ ap (record_at_place q) (sym k_is) ∙ record_at_more q j here)
+        at : At (listed q) n k x t c
+        at = subst (λ i. At (listed q) n i x t c) k_is (stands_at j here set set_is)
+
+        opened_is : c ≡ 2 * (j + 1) - 1 + turn_count (listed q) n (get_or (the_list q) j 0)
+        opened_is = ap (λ l. l.found.opened) (set_is ∙ ap (last_of q) (kth_more q j here))
 
         few : k ≤ 2 ^ 32
         few = omega (arith, within, how_many_few q proper)
 
-        many : last.opened < 2 ^ 63
+        many : c < 2 ^ 63
         many = omega (arith, opened_is, k_is, few, turns_few q j, proper.wide.1)
 
-        by : TurnedAside q last.set.bits t entry r exit → Turned q k r exit
+        by : TurnedAside q x t entry r exit → Turned q k r exit
         by (inl s) =
-            let end : exit ≡ opened_at_end q k = s.2 ∙ e ∙ ap (λ r. r.opened) last_is ∙ sym (opened_end_some j k k_is) in
-            subst (λ m. Turned q k m exit) (sym s.1) (aside_none proper.wide.1 k last.set.bits t last.opened at few many s.0, end)
+            let end : exit ≡ opened_at_end q k = s.2 ∙ entry_is ∙ ap (λ l. l.found.opened) came.1 ∙ sym (opened_end_some j k k_is) in
+            subst (λ m. Turned q k m exit) (sym s.1) (aside_none proper.wide.1 k x t c at few many s.0, end)
         by (inr s) =
             let b = s.0 in
-            let x = last.set.bits in
             subst (λ m. Turned q k m exit) (sym s.2)
-            (subst (Turned q k (start_of (opened_node q (part_in x b) (aside_out x b)) (without_bit t b))) (sym (s.3 ∙ ap one_more e))
-            (aside_turned proper.wide.1 k x t last.opened at few many b s.1 (opened_node q (part_in x b) (aside_out x b)) refl))
+            (subst (Turned q k (start_of (opened_node q (part_in x b) (aside_out x b)) (without_bit t b))) (sym (s.3 ∙ ap one_more entry_is))
+            (aside_turned proper.wide.1 k x t c at few many b s.1 (opened_node q (part_in x b) (aside_out x b)) refl))

@@ -38,16 +38,16 @@ pub record Ready (q : Query) (node : Node) : Type 0 where
   pub support_is : node.support ≡ support_of q.table node.ins.bits
 
 -- A descent for the k-th set may begin at the node with these turns, where so many nodes are opened and the marks below b are decided.
-pub record Begun (q : Query) (k b : ℕ) (node : Node) (turns opened : ℕ) : Type 0 where
-  pub reached : Reached (listed q) q.table.width b node.ins.bits node.outs.bits turns
-  pub counted : Opened k (size_of turns) opened
+pub record Begun (q : Query) (k b : ℕ) (start : Start) (opened : ℕ) : Type 0 where
+  pub reached : Reached (listed q) q.table.width b start.node.ins.bits start.node.outs.bits start.turns.bits
+  pub counted : Opened k (size_of start.turns.bits) opened
   pub few : k ≤ 2 ^ 33
 
 -- What the descent finds: the first set that fits the node, its support, its turns, and how many nodes are then opened.
-pub record Landed (q : Query) (start : Node) (turns opened : ℕ) (leaf : Leaf) (opened' : ℕ) : Type 0 where
+pub record Landed (q : Query) (start : Start) (opened : ℕ) (leaf : Leaf) (opened' : ℕ) : Type 0 where
   pub support_is : leaf.support ≡ support_of q.table leaf.set.bits
-  pub found : (k b : ℕ) → Begun q k b start turns opened
-      → Descended (listed q) q.table.width k opened b start.ins.bits start.outs.bits leaf.set.bits leaf.turns.bits opened'
+  pub found : (k b : ℕ) → Begun q k b start opened
+      → Descended (listed q) q.table.width k opened b start.node.ins.bits start.node.outs.bits leaf.set.bits leaf.turns.bits opened'
 
 -- What is opened to turn aside from the set x with these turns: nothing where there are none, and else the node at the highest of them, with that mark put out.
 abbrev pub TurnedAside : Query → ℕ → ℕ → ℕ → Option Start → ℕ → Type 0
@@ -60,5 +60,5 @@ TurnedAside q x turns opened start opened' =
 abbrev pub Turned : Query → ℕ → Option Start → ℕ → Type 0
 Turned q k None opened = (k ≡ how_many q) × (opened ≡ opened_at_end q k)
 Turned q k (Some start) opened =
-    (b : ℕ) × Begun q (k + 1) b start.node start.turns.bits opened
+    (b : ℕ) × Begun q (k + 1) b start opened
     × ((x t c : ℕ) → Descended (listed q) q.table.width (k + 1) opened b start.node.ins.bits start.node.outs.bits x t c → At (listed q) q.table.width (k + 1) x t c)

@@ -1,15 +1,16 @@
 -- The records of a list, and what is opened on the way.
-use Rattle.std.specs.Prelude.{ℕ, ◌+◌, ◌-◌, ◌*◌, cond, List, [], ◌∷◌, ◌++◌, map, length, drop, Option, ◌==◌, slice_index, slice_index_or}
+use Rattle.std.specs.Prelude.{ℕ, ◌+◌, ◌-◌, ◌*◌, cond, List, [], ◌∷◌, ◌++◌, map, length, drop, Some, None, Option, ◌==◌, slice_index, slice_index_or}
 use Rattle.std.specs.List.{range_with_len}
+use Rattle.std.specs.Option.{is_none}
 use Rattle.marks.specs.declared.refusal.Reason.TheVariants.{NothingYet}
 use Rattle.marks.specs.declared.refusal.Refusal.{Refusal}
 use Rattle.marks.specs.Refusals.{unplaced, due_if, first_due}
-use Rattle.marks.specs.Sets.{no_marks}
 use Rattle.tables.specs.Holding.{support_of}
 use Rattle.found.specs.declared.record.Record.{Record}
 use Rattle.found.specs.Records.{record_bytes, record_length, slot_refusal, no_record}
 use Rattle.closed.specs.Families.{turns, turn_count}
 use Rattle.closed.specs.Closed.{Query, listed, the_list}
+use Rattle.finder.specs.declared.finder.Last.{Last}
 
 -- how many sets are listed
 abbrev pub how_many : Query → ℕ
@@ -28,21 +29,26 @@ record_of q k x = record {
 unfoldable pub records : Query → List Record
 records q = map (λ k. record_of q (k + 1) (slice_index (the_list q) k)) (range_with_len 0 (how_many q))
 
--- the record of the k-th set, counted from 1, and its turns; before the first, no record and none
-unfoldable pub record_at_place : Query → ℕ → Record
-record_at_place q k = cond (k == 0) no_record (slice_index_or (records q) (k - 1) no_record)
+-- the record of the k-th set, counted from 1
+abbrev pub kth_record : Query → ℕ → Record
+kth_record q k = slice_index_or (records q) (k - 1) no_record
 
-unfoldable pub turns_at_place : Query → ℕ → ℕ
-turns_at_place q k = cond (k == 0) no_marks (turns (listed q) q.table.width (record_at_place q k).set.bits)
+-- the set of a record with its turns, as it is remembered
+abbrev pub last_of : Query → Record → Last
+last_of q r = record { found = r; turns = record { bits = turns (listed q) q.table.width r.set.bits } }
+
+-- the k-th set, as it is remembered; before the first set, none
+unfoldable pub last_at_place : Query → ℕ → Option Last
+last_at_place q k = cond (k == 0) None (Some (last_of q (kth_record q k)))
 
 -- how many nodes are opened once the list is out after k sets: those up to the last set, or the root alone where there is none
 abbrev pub opened_at_end : Query → ℕ → ℕ
-opened_at_end q k = cond (k == 0) 1 (record_at_place q k).opened
+opened_at_end q k = cond (k == 0) 1 (kth_record q k).opened
 
 -- what a slot holds once a record was written into it: the record, and past it what it held
 abbrev pub written : Record → List ℕ → List ℕ
 written r slot = record_bytes r ++ drop record_length slot
 
--- looking at the last record, of this ordinal, with a slot of so many bytes
-abbrev pub look_refusal : ℕ → ℕ → Option Refusal
-look_refusal size ordinal = first_due (slot_refusal size ∷ due_if (ordinal == 0) (unplaced NothingYet) ∷ [])
+-- looking at the last set, if there is one, with a slot of so many bytes
+abbrev pub look_refusal : ℕ → Option Last → Option Refusal
+look_refusal size last = first_due (slot_refusal size ∷ due_if (is_none last) (unplaced NothingYet) ∷ [])

@@ -1,4 +1,5 @@
 pub mod Tallies
+pub mod Asked
 pub mod Nodes
 pub mod Found
 pub mod Calls

@@ -10,7 +10,7 @@ module _ {T W : Type 0} (meaning : T → Meaning) (allowed : W → ℕ → Bool)
   abbrev pub Does : Finder T W → Entry → Finder T W → Type 0
   Does f (next before answer after) h = NextDone meaning allowed f before answer after h
   Does f (look before answer after) h = LookDone meaning allowed f before answer after × (h ≡ f)
-  Does f rewind h = h ≡ begun f.table f.limit f.support
+  Does f rewind h = h ≡ begun f.query.table f.query.limit f.query.support
 
   -- a run of calls, from one finder to another
   abbrev pub Run : Finder T W → List Entry → Finder T W → Type 0

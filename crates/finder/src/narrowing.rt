@@ -4,20 +4,30 @@ ghost use Rattle.marks.specs.Refusals.{Answers};
 ghost use Rattle.marks.specs.Sets.{picked};
 ghost use Rattle.closed.specs.Closed.{query, listed, clash, ListLaws, narrow_refusal};
 ghost use Rattle.closed.specs.Walks.{Exact};
+ghost use Rattle.finder.specs.Asked.{asked};
 ghost use Rattle.finder.specs.Nodes.{node_of, passes};
 ghost use Rattle.finder.specs.Tallies.{no_holding};
 
 use crate::tally::Tally;
 use limits::Limit;
-use marks::{Mark, MarkSet, Reason, Refusal, Support, Width};
+use marks::{MarkSet, Reason, Refusal, Support, Width};
 use tables::{Holding, Table};
 
 /// A node after narrowing: the marks that are put in, those that are put out, and how many charges hold those that are put in.
-#[derive(Clone, Copy)]
+#[derive(Clone, Copy, PartialEq, Eq, Debug)]
 pub struct Node {
     pub ins: MarkSet,
     pub outs: MarkSet,
     pub support: u32,
+}
+
+// What a list is made of: a table, a limit, and the least support.
+// Its ghost query is spelled out as `asked ..` in each contract: as an `impl Model` it would put bounds on this type and on `Finder`, which is no plainer.
+#[derive(Drop)]
+pub(crate) struct Query<T, W> {
+    pub table: T,
+    pub limit: W,
+    pub support: Support,
 }
 
 // Whether the two sets share a mark, or either has one above the width.
@@ -28,32 +38,42 @@ fn clashes(width: Width, ins: MarkSet, outs: MarkSet) -> bool
     !ins.intersection(outs).is_empty() || !ins.is_part_of(all) || !outs.is_part_of(all)
 }
 
-// Whether the closure of a set is wanted, and has no mark that is put out. The limit is asked about the closure, not about the set.
-fn is_wanted<W: Limit>(holding: Holding, limit: &W, support: Support, outs: MarkSet) -> bool
-    ensures { result ≡ passes (W.Allows.allowed limit.now) support.number outs.bits holding }
-{
-    support.get() <= holding.support()
-        && limit.allows(holding.closure())
-        && holding.closure().intersection(outs).is_empty()
-}
-
-// The marks up to the width with which no listed set fits.
-fn excluded<W: Limit>(
-    tally: &Tally,
-    width: Width,
-    limit: &W,
-    support: Support,
-    outs: MarkSet,
-) -> MarkSet
-    ensures { result.bits ≡ picked (λ b. not (passes (W.Allows.allowed limit.now) support.number outs.bits (slice_index_or tally.now.marks b no_holding))) width.number }
-{
-    let mut excluded = MarkSet::empty();
-    let mut next = Some(Mark::first());
-    while let Some(mark) = next {
-        excluded = excluded.with_if(mark, !is_wanted(tally.with(mark), limit, support, outs));
-        next = mark.next(width);
+// The marks put in and those put out stay two parameters: a pair would be built for each call only to be taken apart, which is no plainer.
+impl<T: Table, W: Limit> Query<T, W> {
+    // Whether the closure of a set is wanted, and has no mark that is put out. The limit is asked about the closure, not about the set.
+    fn wants(&self, holding: Holding, outs: MarkSet) -> bool
+        ensures { result ≡ passes (asked T.Table.meaning W.Limit.allowed self.now) outs.bits holding }
+    {
+        self.support.get() <= holding.support()
+            && self.limit.allows(holding.closure())
+            && holding.closure().intersection(outs).is_empty()
     }
-    excluded
+
+    // The marks up to the width with which no listed set fits.
+    fn excluded(&self, tally: &Tally, outs: MarkSet) -> MarkSet
+        ensures { result.bits ≡ picked (λ b. not (passes (asked T.Table.meaning W.Limit.allowed self.now) outs.bits (slice_index_or tally.now.marks b no_holding))) (T.Table.meaning self.now.table).width }
+    {
+        MarkSet::up_to(self.table.width()).filter(|mark| !self.wants(tally.with(mark), outs))
+    }
+
+    // Narrows the node with these marks put in and put out.
+    pub fn narrow(&self, ins: MarkSet, outs: MarkSet) -> Result<Node, Refusal>
+        ensures { Answers (narrow_refusal (asked T.Table.meaning W.Limit.allowed self.now) ins.bits outs.bits) (λ node. node ≡ node_of (asked T.Table.meaning W.Limit.allowed self.now) ins.bits outs.bits) result }
+    {
+        if clashes(self.table.width(), ins, outs) {
+            return Err(Refusal::unplaced(Reason::Clash));
+        }
+        let tally = Tally::of(&self.table, ins);
+        let own = tally.own();
+        if !self.wants(own, outs) {
+            return Err(Refusal::unplaced(Reason::DeadEnd));
+        }
+        Ok(Node {
+            ins: own.closure(),
+            outs: self.excluded(&tally, outs),
+            support: own.support(),
+        })
+    }
 }
 
 /// Narrows the node with these marks put in and put out: the new marks in are those of every listed set that holds all of `ins` and none of `outs`, the new marks out are the marks up to the
@@ -66,22 +86,14 @@ pub fn narrow<T: Table, W: Limit>(
     ins: MarkSet,
     outs: MarkSet,
 ) -> Result<Node, Refusal>
-    ensures answer { Answers (narrow_refusal (query (T.Rows.meaning table.now) (W.Allows.allowed limit.now) support.number) ins.bits outs.bits) (λ node. node ≡ node_of (query (T.Rows.meaning table.now) (W.Allows.allowed limit.now) support.number) ins.bits outs.bits) result }
-    ensures exact { IfOk result (λ node. Exact (listed (query (T.Rows.meaning table.now) (W.Allows.allowed limit.now) support.number)) (T.Rows.meaning table.now).width ins.bits outs.bits node.ins.bits node.outs.bits) }
-    ensures laws { ListLaws (query (T.Rows.meaning table.now) (W.Allows.allowed limit.now) support.number) }
+    ensures answer { Answers (narrow_refusal (query (T.Table.meaning table.now) (W.Limit.allowed limit.now) support.number) ins.bits outs.bits) (λ node. node ≡ node_of (query (T.Table.meaning table.now) (W.Limit.allowed limit.now) support.number) ins.bits outs.bits) result }
+    ensures exact { IfOk result (λ node. Exact (listed (query (T.Table.meaning table.now) (W.Limit.allowed limit.now) support.number)) (T.Table.meaning table.now).width ins.bits outs.bits node.ins.bits node.outs.bits) }
+    ensures laws { ListLaws (query (T.Table.meaning table.now) (W.Limit.allowed limit.now) support.number) }
 {
-    let width = table.width();
-    if clashes(width, ins, outs) {
-        return Err(Refusal::unplaced(Reason::Clash));
-    }
-    let tally = Tally::of(table, ins);
-    let own = tally.own();
-    if !is_wanted(own, limit, support, outs) {
-        return Err(Refusal::unplaced(Reason::DeadEnd));
-    }
-    Ok(Node {
-        ins: own.closure(),
-        outs: excluded(&tally, width, limit, support, outs),
-        support: own.support(),
-    })
+    let query = Query {
+        table,
+        limit,
+        support,
+    };
+    query.narrow(ins, outs)
 }

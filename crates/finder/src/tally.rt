@@ -4,14 +4,11 @@ ghost use Rattle.marks.specs.Numbers.{bit_of};
 ghost use Rattle.closed.specs.Closed.{ClosureLaws};
 ghost use Rattle.finder.specs.Tallies.{no_holding, tally_of, joined_each, noted};
 
-use marks::{Charge, MOST_MARKS, Mark, MarkSet};
+use marks::{Charge, MARKS, Mark, MarkSet};
 use tables::{Holding, Table};
 
-// How many marks there can be, as the length of an array.
-const MARKS: usize = MOST_MARKS as usize;
-
 /// The support and closure of a set and, for each mark, those of the set with that mark added.
-#[derive(Clone, Copy)]
+#[derive(Clone, Copy, PartialEq, Eq, Debug)]
 pub struct Tally {
     own: Holding,
     marks: [Holding; MARKS],
@@ -21,29 +18,24 @@ pub struct Tally {
 fn join_each(marks: &mut [Holding; MARKS], row: MarkSet)
     ensures { marks.new ≡ joined_each row.bits marks.old }
 {
-    let mut rest = row;
-    while let Some(mark) = rest.lowest() {
+    for mark in row.marks() {
         marks[mark.bit() as usize].join(row);
-        rest = rest.without(mark);
     }
 }
 
 impl Tally {
     /// The tally of `set` in `table`, from one pass over its charges. The set may have marks above the width.
     pub fn of<T: Table>(table: &T, set: MarkSet) -> Tally
-        ensures value { result ≡ tally_of (T.Rows.meaning table.now) set.bits }
-        ensures laws { ClosureLaws (T.Rows.meaning table.now) }
+        ensures value { result ≡ tally_of (T.Table.meaning table.now) set.bits }
+        ensures laws { ClosureLaws (T.Table.meaning table.now) }
     {
-        let count = table.count();
         let none = Holding::unheld(table.width());
         let mut tally = Tally {
             own: none,
             marks: [none; MARKS],
         };
-        let mut next = Charge::first(count);
-        while let Some(charge) = next {
+        for charge in Charge::up_to(table.count()) {
             tally.note(set, table.row(charge));
-            next = charge.next(count);
         }
         tally
     }
@@ -52,9 +44,10 @@ impl Tally {
     fn note(&mut self, set: MarkSet, row: MarkSet)
         ensures { self.new ≡ noted set.bits row.bits self.old }
     {
+        let Tally { own, marks } = self;
         if set.is_part_of(row) {
-            self.own.join(row);
-            join_each(&mut self.marks, row);
+            own.join(row);
+            join_each(marks, row);
         }
     }
 

@@ -1,11 +1,13 @@
 -- Records that are read back: their order, and what memory holds.
-use Rattle.std.proofs.Common.{◌≡◌, ℕ, ◌+◌, ◌-◌, ◌*◌, ◌/◌, ◌%◌, ◌^◌, ◌<◌, ◌≤◌, true, false, ◌⊎◌, List, ◌++◌, length, get_or, take, drop, Some, None, Decides, Option, sym, ap, ◌∙◌, subst, inl, inr, ⊎_elim, arith}
+use Rattle.std.proofs.Common.{◌≡◌, ℕ, suc, ◌+◌, ◌-◌, ◌*◌, ◌/◌, ◌%◌, ◌^◌, ◌<◌, ◌≤◌, true, false, ◌⊎◌, List, [], ◌∷◌, ◌++◌, map, length, get_or, take, drop, set, eqb, add-one, append_assoc, Some, None, Decides, Option, sym, ap, ◌∙◌, subst, inl, inr, ⊎_elim, arith}
 use lib.Bits.{bit_xor, xor_lt}
 use lib.Count.{count_trailing_zeros, trailing_of_zero}
 use Rattle.std.specs.List.{range_with_len}
+use Rattle.std.specs.Simd.{first_chunks}
 use Rattle.std.proofs.lemmas.List.FromFn.{length-map-range_with_len, get_or-map-range_with_len}
-use Rattle.std.proofs.lemmas.List.{get_or_past, get_or-take, get_or-drop, get_or_default, length-take, length-drop, length-append, get_or_append_left, get_or-append_right, ext_get_or}
-use Rattle.std.proofs.lemmas.Bool.{cases_eq, cases_lt, cases_Bool, both_ways, eq-eqb, ne_eqb, lt-ltb, le-ltb, le-leb, lt-leb}
+use Rattle.std.proofs.Math.Seq.{drop-cons}
+use Rattle.std.proofs.lemmas.List.{get_or_past, get_or_default, get_or-map, length-map, length-take-le, map-append, set-append_right, take_at, take_more, ext_get_or}
+use Rattle.std.proofs.lemmas.Bool.{cases_eq, cases_lt, cases_Bool, both_ways, eqb-true, eq-eqb, ne_eqb, lt-ltb, le-ltb, le-leb, lt-leb}
 use Rattle.marks.specs.declared.refusal.Reason.TheVariants.{Ragged, NoPlace, OutOfOrder}
 use Rattle.marks.specs.Orders.{Before, After, FirstUnordered}
 use Rattle.marks.specs.Places.{first_place}
@@ -17,6 +19,7 @@ use Rattle.marks.specs.SetOrder.{before_decided, same_undecided}
 use Rattle.marks.specs.Sizes.{trailing_lowest}
 use Rattle.found.specs.declared.record.Record.{Record}
 use Rattle.found.specs.Records.{record_length, record_at, found_records, comes_before, TellsListOrder, no_record, unordered, read_refusal, read_memory}
+use Rattle.found.proofs.Laying.{record_in}
 
 -- ---- the order
 
@@ -89,71 +92,80 @@ module _ (bytes : List ℕ) where
 
 -- ---- what memory holds
 
+-- what the store of one more makes of memory
+module _ {X Y : Type 0} (f : X → Y) (xs : List X) (old : List Y) where
+  pub one_more : {memory : List Y} (i : ℕ) (d : X) → i < length xs → length xs ≤ length old → memory ≡ map f (take i xs) ++ drop i old
+      → set memory i (f (get_or xs i d)) ≡ map f (take (i + 1) xs) ++ drop (i + 1) old
+  one_more i d h room e =
+      let x = get_or xs i d in
+      let front = map f (take i xs) in
+      let size : length front ≡ i = length-map (take i xs) f ∙ length-take-le i xs (omega arith) in
+      let none : i - i ≡ 0 = omega arith in
+      let rest : drop i old ≡ get_or old i (f x) ∷ drop (suc i) old = drop-cons old i (f x) (omega arith) in
+      let step : set (front ++ drop i old) i (f x) ≡ front ++ (f x ∷ drop (suc i) old) = set-append_right front (drop i old) i i (f x) size (omega arith) ∙ rw (none, rest) in
+      let more : map f (take (i + 1) xs) ≡ front ++ (f x ∷ []) = ap (map f) (take_more xs i d h) ∙ map-append f (take i xs) (x ∷ []) in
+      rw (e, step, more, add-one) (sym (append_assoc front (f x ∷ []) (drop (suc i) old)))
+
+abbrev of_chunk : List ℕ → Record
+of_chunk chunk = record_at chunk 0
+
+-- the bytes are whole records, cut into chunks
+pub record Cut (bytes : List ℕ) (chunks : List (List ℕ)) : Type 0 where
+  pub whole : length bytes % record_length ≡ 0
+  pub parts : chunks ≡ first_chunks record_length (length bytes / record_length) bytes
+  pub count : length chunks ≡ length bytes / record_length
+
+pub cut : {bytes : List ℕ} {chunks : List (List ℕ)} {stray : ℕ} → stray ≡ length bytes % record_length → true ≡ eqb stray 0
+    → chunks ≡ first_chunks record_length (length bytes / record_length) bytes → length chunks ≡ length bytes / record_length → Cut bytes chunks
+cut {stray = stray} s none e n = record { whole = sym s ∙ eqb-true stray 0 (sym none); parts = e; count = n }
+
 pub kept_ragged : (bytes : List ℕ) (old : List Record) → (length bytes % record_length ≡ 0 → ⊥) → old ≡ read_memory bytes old
 unfolding read_memory
 kept_ragged bytes old ragged = rw (ne_eqb (length bytes % record_length) 0 ragged)
 
-module _ (bytes : List ℕ) (whole : length bytes % record_length ≡ 0) where
-  pub kept_short : (old : List Record) → length old < length bytes / record_length → old ≡ read_memory bytes old
+module _ {bytes : List ℕ} {chunks : List (List ℕ)} (c : Cut bytes chunks) where
+  pub kept_short : (old : List Record) → length old < length chunks → old ≡ read_memory bytes old
   unfolding read_memory
-  kept_short old short = rw (eq-eqb (length bytes % record_length) 0 whole, lt-leb (length bytes / record_length) (length old) short)
+  kept_short old short = rw (eq-eqb (length bytes % record_length) 0 c.whole, lt-leb (length bytes / record_length) (length old) (omega (arith, c.count)))
 
-  pub filled : (old new : List Record) → length bytes / record_length ≤ length old → length new ≡ length old
-      → ((k : ℕ) → k < length bytes / record_length → get_or new k no_record ≡ record_at bytes (k * record_length))
-      → ((k : ℕ) → length bytes / record_length ≤ k → get_or new k no_record ≡ get_or old k no_record)
-      → new ≡ read_memory bytes old
-  unfolding read_memory
-  filled old new room same front rest =
-      rw (eq-eqb (length bytes % record_length) 0 whole, le-leb (length bytes / record_length) (length old) room)
-      (ext_get_or no_record new (found_records bytes ++ drop (length bytes / record_length) old) sizes at)
-    where
-      sizes : length new ≡ length (found_records bytes ++ drop (length bytes / record_length) old)
-      sizes = omega (arith, length-append (found_records bytes) (drop (length bytes / record_length) old), found_length bytes, length-drop (length bytes / record_length) old)
+  of_chunks : map (λ chunk. record_at chunk 0) chunks ≡ found_records bytes
+  of_chunks =
+      ext_get_or no_record (map of_chunk chunks) (found_records bytes) (omega (arith, length-map chunks of_chunk, found_length bytes, c.count))
+      (λ k h. let l : k < length bytes / record_length = omega (arith, length-map chunks of_chunk, c.count) in
+      get_or-map of_chunk chunks k [] no_record (omega (arith, c.count)) ∙ record_in (length bytes / record_length) bytes chunks k l c.parts ∙ sym (found_at bytes k l))
 
-      at : (k : ℕ) → k < length new → get_or new k no_record ≡ get_or (found_records bytes ++ drop (length bytes / record_length) old) k no_record
-      at k h =
-          elim (cases_lt k (length bytes / record_length)) [
-            | inl l ↦ front k l ∙ sym (get_or_append_left (found_records bytes) (drop (length bytes / record_length) old) no_record k (omega (arith, found_length bytes)) ∙ found_at bytes k l)
-            | inr l ↦ (let e : length bytes / record_length + (k - length bytes / record_length) ≡ k = omega arith in
-                rest k l ∙ sym (get_or-append_right (found_records bytes) (drop (length bytes / record_length) old) (length bytes / record_length) k no_record (found_length bytes) l
-                ∙ get_or-drop (length bytes / record_length) old (k - length bytes / record_length) no_record ∙ ap (λ i. get_or old i no_record) e))
-          ]
+  module _ (old new : List Record) (is : new ≡ map (λ chunk. record_at chunk 0) chunks ++ drop (length chunks) old) where
+    pub filled : length chunks ≤ length old → new ≡ read_memory bytes old
+    unfolding read_memory
+    filled room = rw (eq-eqb (length bytes % record_length) 0 c.whole, le-leb (length bytes / record_length) (length old) (omega (arith, c.count))) (is ∙ rw (of_chunks, c.count))
 
--- the records stand in front
-pub front_is : (bytes : List ℕ) (new : List Record) → length bytes / record_length ≤ length new
-    → ((k : ℕ) → k < length bytes / record_length → get_or new k no_record ≡ record_at bytes (k * record_length))
-    → take (length bytes / record_length) new ≡ found_records bytes
-front_is bytes new room front =
-    ext_get_or no_record (take (length bytes / record_length) new) (found_records bytes)
-    (omega (arith, length-take (length bytes / record_length) new, found_length bytes))
-    (λ k h. let l : k < length bytes / record_length = omega (arith, length-take (length bytes / record_length) new) in
-    get_or-take (length bytes / record_length) new k no_record l ∙ front k l ∙ sym (found_at bytes k l))
-
--- what the check of neighbours says of them
-pub judged : (bytes : List ℕ) → ((i : ℕ) → get_or bytes i 0 < 256) → (taken : List Record) → taken ≡ found_records bytes → (o : Option ℕ) → FirstUnordered RecordBefore taken o
-    → first_place (unordered (found_records bytes)) (range_with_len 0 (length bytes / record_length)) ≡ o
-judged bytes fits taken e o h =
-    ap (λ n. first_place (unordered (found_records bytes)) (range_with_len 0 n)) (sym (found_length bytes))
-    ∙ place_of (found_records bytes) (found_small bytes fits) o (subst (λ l. FirstUnordered RecordBefore l o) e h)
+    -- what the check of neighbours says of the records in front
+    pub judged : ((i : ℕ) → get_or bytes i 0 < 256) → (o : Option ℕ) → FirstUnordered RecordBefore (take (length chunks - 0) new) o
+        → first_place (unordered (found_records bytes)) (range_with_len 0 (length bytes / record_length)) ≡ o
+    judged fits o h =
+        let size : length (found_records bytes) ≡ length chunks - 0 = omega (arith, found_length bytes, c.count) in
+        let front : take (length chunks - 0) new ≡ found_records bytes =
+        rw (is, of_chunks) (take_at (found_records bytes) (drop (length chunks) old) (length chunks - 0) size)
+        in
+        ap (λ n. first_place (unordered (found_records bytes)) (range_with_len 0 n)) (sym (found_length bytes))
+        ∙ place_of (found_records bytes) (found_small bytes fits) o (subst (λ l. FirstUnordered RecordBefore l o) front h)
 
 -- ---- refused
 
-module _ (bytes : List ℕ) (room : ℕ) where
-  pub refused_ragged : (length bytes % record_length ≡ 0 → ⊥) → read_refusal bytes room ≡ Some (unplaced Ragged)
+pub refused_ragged : (bytes : List ℕ) (room : ℕ) → (length bytes % record_length ≡ 0 → ⊥) → read_refusal bytes room ≡ Some (unplaced Ragged)
+unfolding read_refusal
+refused_ragged bytes room ragged = rw (ne_eqb (length bytes % record_length) 0 ragged)
+
+module _ {bytes : List ℕ} {chunks : List (List ℕ)} (c : Cut bytes chunks) (room : ℕ) where
+  pub refused_place : room < length chunks → read_refusal bytes room ≡ Some (unplaced NoPlace)
   unfolding read_refusal
-  refused_ragged ragged = rw (ne_eqb (length bytes % record_length) 0 ragged)
+  refused_place short = rw (eq-eqb (length bytes % record_length) 0 c.whole, lt-ltb room (length bytes / record_length) (omega (arith, c.count)))
 
-  module _ (whole : length bytes % record_length ≡ 0) where
-    pub refused_place : room < length bytes / record_length → read_refusal bytes room ≡ Some (unplaced NoPlace)
-    unfolding read_refusal
-    refused_place short = rw (eq-eqb (length bytes % record_length) 0 whole, lt-ltb room (length bytes / record_length) short)
+  pub refused_order : length chunks ≤ room → (place : ℕ) → first_place (unordered (found_records bytes)) (range_with_len 0 (length bytes / record_length)) ≡ Some place
+      → read_refusal bytes room ≡ Some (placed_at OutOfOrder place)
+  unfolding read_refusal
+  refused_order fits place e = rw (eq-eqb (length bytes % record_length) 0 c.whole, le-ltb room (length bytes / record_length) (omega (arith, c.count)), e)
 
-    pub refused_order : length bytes / record_length ≤ room → (place : ℕ) → first_place (unordered (found_records bytes)) (range_with_len 0 (length bytes / record_length)) ≡ Some place
-        → read_refusal bytes room ≡ Some (placed_at OutOfOrder place)
-    unfolding read_refusal
-    refused_order fits place e = rw (eq-eqb (length bytes % record_length) 0 whole, le-ltb room (length bytes / record_length) fits, e)
-
-    pub accepted : length bytes / record_length ≤ room → first_place (unordered (found_records bytes)) (range_with_len 0 (length bytes / record_length)) ≡ None
-        → read_refusal bytes room ≡ None
-    unfolding read_refusal
-    accepted fits e = rw (eq-eqb (length bytes % record_length) 0 whole, le-ltb room (length bytes / record_length) fits, e)
+  pub accepted : length chunks ≤ room → first_place (unordered (found_records bytes)) (range_with_len 0 (length bytes / record_length)) ≡ None → read_refusal bytes room ≡ None
+  unfolding read_refusal
+  accepted fits e = rw (eq-eqb (length bytes % record_length) 0 c.whole, le-ltb room (length bytes / record_length) (omega (arith, c.count)), e)

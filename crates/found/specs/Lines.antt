@@ -1,5 +1,5 @@
 -- The printed lines, as bytes, and what is written into memory.
-use Rattle.std.specs.Prelude.{◌≡◌, ℕ, zero, suc, ◌+◌, ◌<◌, ◌≤◌, cond, List, [], ◌++◌, length, take, drop, Some, None, codes, decimal, Option, Result, nat_lt}
+use Rattle.std.specs.Prelude.{◌≡◌, ℕ, zero, suc, ◌+◌, cond, List, [], ◌++◌, length, drop, codes, decimal, Option, Result, nat_lt}
 use Rattle.marks.specs.declared.refusal.Reason.TheVariants.{NoPlace}
 use Rattle.marks.specs.declared.refusal.Refusal.{Refusal}
 use Rattle.marks.specs.Numbers.{most_marks}
@@ -35,14 +35,3 @@ place_refusal size room = due_if (nat_lt room size) (unplaced NoPlace)
 -- a text handed out into memory, and how many bytes it has: it stands at the front, and past it all is as it was
 abbrev pub HandedOut : List ℕ → List ℕ → List ℕ → Result ℕ Refusal → Type 0
 HandedOut text old new = Answers (place_refusal (length text) (length old)) (λ n. (n ≡ length text) × (new ≡ text ++ drop (length text) old))
-
--- the text stands from `at` to `end`, and all else is as it was
-pub record Wrote (old new : List ℕ) (at end : ℕ) (text : List ℕ) : Type 0 where
-  pub ends : end ≡ at + length text
-  pub room : end ≤ length old
-  pub is : new ≡ take at old ++ (text ++ drop end old)
-
--- the text was written from `at` on, or there was no room for it
-abbrev pub Put : List ℕ → List ℕ → ℕ → List ℕ → Option ℕ → Type 0
-Put old new at text (Some end) = Wrote old new at end text
-Put old new at text None = length old < at + length text

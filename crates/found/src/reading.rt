@@ -1,12 +1,12 @@
 // Reading found bytes back.
-ghost use Rattle.std.specs.Prelude.{◌≡◌, ℕ, ◌+◌, ◌*◌, ◌/◌, ◌<◌, ◌≤◌, length, slice_index_or};
+ghost use Rattle.std.specs.Prelude.{◌≡◌, ◌/◌, ◌≤◌, ◌++◌, map, length, drop};
 ghost use Rattle.marks.specs.Orders.{Before};
 ghost use Rattle.marks.specs.Refusals.{Answers};
-ghost use Rattle.found.specs.Records.{record_length, four_at, eight_at, record_at, no_record, read_refusal, read_memory, TellsListOrder};
+ghost use Rattle.found.specs.Records.{record_length, record_at, read_refusal, read_memory, TellsListOrder};
 ghost use Rattle.std.proofs.Common.{rules};
 
-use crate::record::{RECORD_BYTES, Record};
-use marks::{MarkSet, Reason, Refusal, StrictOrder, first_unordered};
+use crate::record::{RECORD_BYTES, Record, RecordBytes};
+use marks::{Reason, Refusal, StrictOrder, first_unordered};
 
 // By the set, in list order.
 impl StrictOrder for Record {
@@ -21,52 +21,14 @@ impl StrictOrder for Record {
     }
 }
 
-// The number in four bytes, low byte first.
-fn four_at(bytes: &[u8], at: usize) -> u32
-    requires { at + 4 ≤ length bytes.now }
-    ensures { result ≡ four_at bytes.now at }
+// Puts the records of so many chunks into the front of memory.
+fn fill(chunks: &[RecordBytes], memory: &mut [Record])
+    requires { length chunks.now ≤ length memory.old }
+    ensures { memory.new ≡ map (λ chunk. record_at chunk 0) chunks.now ++ drop (length chunks.now) memory.old }
 {
-    u32::from_le_bytes([bytes[at], bytes[at + 1], bytes[at + 2], bytes[at + 3]])
-}
-
-// The number in eight bytes, low byte first.
-fn eight_at(bytes: &[u8], at: usize) -> u64
-    requires { at + 8 ≤ length bytes.now }
-    ensures { result ≡ eight_at bytes.now at }
-{
-    u64::from_le_bytes([
-        bytes[at],
-        bytes[at + 1],
-        bytes[at + 2],
-        bytes[at + 3],
-        bytes[at + 4],
-        bytes[at + 5],
-        bytes[at + 6],
-        bytes[at + 7],
-    ])
-}
-
-// The record in the bytes from a place on.
-fn record_at(bytes: &[u8], at: usize) -> Record
-    requires { at + record_length ≤ length bytes.now }
-    ensures { result ≡ record_at bytes.now at }
-{
-    Record {
-        set: MarkSet::from_bits(four_at(bytes, at)),
-        support: four_at(bytes, at + 4),
-        ordinal: eight_at(bytes, at + 8),
-        opened: eight_at(bytes, at + 16),
-    }
-}
-
-// Puts so many records into the front of memory.
-fn fill(bytes: &[u8], memory: &mut [Record], count: usize)
-    requires { (count * record_length ≤ length bytes.now) × (count ≤ length memory.old) }
-    ensures front { (k : ℕ) → k < count → slice_index_or memory.new k no_record ≡ record_at bytes.now (k * record_length) }
-    ensures rest { (k : ℕ) → count ≤ k → slice_index_or memory.new k no_record ≡ slice_index_or memory.old k no_record }
-{
-    for index in 0..count {
-        memory[index] = record_at(bytes, index * RECORD_BYTES);
+    // By index: of what is written through an `iter_mut` beside the chunks, a proof learns only how much there is.
+    for (index, chunk) in chunks.iter().enumerate() {
+        memory[index] = Record::from_bytes(chunk);
     }
 }
 
@@ -78,14 +40,16 @@ pub fn read_back(bytes: &[u8], memory: &mut [Record]) -> Result<usize, Refusal>
     ensures memory { memory.new ≡ read_memory bytes.now memory.old }
     ensures order { TellsListOrder }
 {
-    if bytes.len() % RECORD_BYTES != 0 {
+    let (chunks, stray) = bytes.as_chunks::<RECORD_BYTES>();
+    if !stray.is_empty() {
         return Err(Refusal::unplaced(Reason::Ragged));
     }
-    let count = bytes.len() / RECORD_BYTES;
+    let count = chunks.len();
     if count > memory.len() {
         return Err(Refusal::unplaced(Reason::NoPlace));
     }
-    fill(bytes, memory, count);
+    fill(chunks, memory);
+    // Two answers of the call, so a match: in a `map_or` the fault would stand inside a closure, which is no plainer.
     match first_unordered(&memory[0..count]) {
         Some(place) => Err(Refusal::at(Reason::OutOfOrder, place as u64)),
         None => Ok(count),

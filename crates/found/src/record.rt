@@ -1,7 +1,7 @@
 // Found records.
-ghost use Rattle.std.specs.Prelude.{◌≡◌, ◌+◌, ◌≤◌, ◌++◌, length, drop, MatchResult};
-ghost use Rattle.marks.specs.Refusals.{Answers};
-ghost use Rattle.found.specs.Records.{record_length, record_bytes, record_at, slot_refusal, four_at, eight_at};
+ghost use Rattle.std.specs.Prelude.{◌≡◌, ◌++◌, length, drop};
+ghost use Rattle.marks.specs.Refusals.{Answers, Kept};
+ghost use Rattle.found.specs.Records.{record_length, record_bytes, record_at, slot_refusal};
 
 use marks::{MarkSet, Reason, Refusal};
 
@@ -12,7 +12,7 @@ pub const RECORD_BYTES: usize = 24;
 pub type RecordBytes = [u8; RECORD_BYTES];
 
 /// A set that was found, its support, its place in the list, and how many nodes had been opened.
-#[derive(Clone, Copy)]
+#[derive(Clone, Copy, PartialEq, Eq, Debug)]
 pub struct Record {
     pub set: MarkSet,
     pub support: u32,
@@ -26,21 +26,34 @@ impl Record {
         ensures value { result ≡ record_bytes self }
         ensures back { record_at result 0 ≡ self }
     {
-        let a = self.set.bits().to_le_bytes();
-        let b = self.support.to_le_bytes();
-        let c = self.ordinal.to_le_bytes();
-        let d = self.opened.to_le_bytes();
-        [
-            a[0], a[1], a[2], a[3], b[0], b[1], b[2], b[3], c[0], c[1], c[2], c[3], c[4], c[5],
-            c[6], c[7], d[0], d[1], d[2], d[3], d[4], d[5], d[6], d[7],
-        ]
+        let mut bytes = [0; RECORD_BYTES];
+        bytes[0..4].copy_from_slice(&self.set.bits().to_le_bytes());
+        bytes[4..8].copy_from_slice(&self.support.to_le_bytes());
+        bytes[8..16].copy_from_slice(&self.ordinal.to_le_bytes());
+        bytes[16..RECORD_BYTES].copy_from_slice(&self.opened.to_le_bytes());
+        bytes
+    }
+
+    /// The record that the bytes hold.
+    pub fn from_bytes(bytes: &RecordBytes) -> Record
+        ensures { result ≡ record_at bytes.now 0 }
+    {
+        // Set and support are the first two fours, ordinal and opened the last two eights.
+        let (fours, _) = bytes.as_chunks::<4>();
+        let (eights, _) = bytes.as_chunks::<8>();
+        Record {
+            set: MarkSet::from_bits(u32::from_le_bytes(fours[0])),
+            support: u32::from_le_bytes(fours[1]),
+            ordinal: u64::from_le_bytes(eights[1]),
+            opened: u64::from_le_bytes(eights[2]),
+        }
     }
 
     /// Writes the record into the first bytes of the slot, and leaves the rest.
     /// Refused: SHORT SLOT if the slot is shorter than a record; it is then as it was.
     pub fn write(self, slot: &mut [u8]) -> Result<(), Refusal>
         ensures answer { Answers (slot_refusal (length slot.old)) (λ _. slot.new ≡ record_bytes self ++ drop record_length slot.old) result }
-        ensures kept { MatchResult result (λ _. length slot.new ≡ length slot.old) (λ _. slot.new ≡ slot.old) }
+        ensures kept { Kept slot.old slot.new result }
     {
         if slot.len() < RECORD_BYTES {
             return Err(Refusal::unplaced(Reason::ShortSlot));

@@ -1,6 +1,6 @@
 -- Barred pairs of marks.
-use Rattle.std.specs.Prelude.{◌≡◌, ℕ, ◌-◌, Bool, true, not, ◌&&◌, ◌||◌, List, [], ◌∷◌, length, get_or, is_some, Option, ◌==◌, nat_lt, slice_index_or}
-use Rattle.std.specs.List.{range_with_len}
+use Rattle.std.specs.Prelude.{◌≡◌, ℕ, ◌-◌, Bool, true, not, ◌&&◌, ◌||◌, List, [], ◌∷◌, length, get_or, Option, ◌==◌, nat_lt, slice_index_or}
+use Rattle.std.specs.List.{list_any, range_with_len}
 use Rattle.std.specs.Option.{option_map}
 use Rattle.marks.specs.declared.refusal.Reason.TheVariants.{Range, BadPair}
 use Rattle.marks.specs.declared.refusal.Refusal.{Refusal}
@@ -20,7 +20,7 @@ holds_pair s pair = holds_number s pair.first && holds_number s pair.second
 
 -- sets that hold no pair of the list whole
 unfoldable pub unbarred : List Pair → ℕ → Bool
-unbarred pairs s = not (is_some (first_place (holds_pair s) pairs))
+unbarred pairs s = not (list_any (holds_pair s) pairs)
 
 -- the order of pairs: by the first mark, and then by the second
 abbrev pub pair_before : Pair → Pair → Bool

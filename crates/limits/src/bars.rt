@@ -1,5 +1,5 @@
 // The limit on pairs.
-ghost use Rattle.std.specs.Prelude.{◌≡◌, ◌<◌, ◌≤◌, length, is_some};
+ghost use Rattle.std.specs.Prelude.{◌≡◌, ◌<◌, ◌≤◌, length, nat_lt, not};
 ghost use Rattle.std.specs.List.{range_with_len};
 ghost use Rattle.marks.specs.Orders.{After, Rising};
 ghost use Rattle.marks.specs.Places.{first_place};
@@ -8,17 +8,16 @@ ghost use Rattle.limits.specs.Pairs.{holds_number, holds_pair, unbarred, PairBef
 ghost use Rattle.std.proofs.Common.{rules};
 ghost use Rattle.limits.specs.Barring.{unbarred_parts};
 
-use crate::limit::{Allows, Limit};
+use crate::limit::Limit;
 use marks::{Mark, MarkSet, Reason, Refusal, StrictOrder, first_unordered};
 
-/// Two marks, by their numbers.
-#[derive(Clone, Copy)]
+/// Two marks, by their numbers; in order by the first, and then by the second.
+#[derive(Clone, Copy, PartialEq, Eq, PartialOrd, Ord, Debug)]
 pub struct Pair {
     pub first: u64,
     pub second: u64,
 }
 
-// By the first mark, and then by the second.
 impl StrictOrder for Pair {
     ghost before = { PairBefore };
 
@@ -27,12 +26,35 @@ impl StrictOrder for Pair {
     ghost transitive = { Prim.search rules };
 
     fn is_before(&self, other: &Pair) -> bool {
-        self.first < other.first || self.first == other.first && self.second < other.second
+        self < other
+    }
+}
+
+impl Pair {
+    // Whether an entry is no mark.
+    fn is_off_range(self) -> bool
+        ensures { result ≡ off_range self }
+    {
+        Mark::new(self.first).is_err() || Mark::new(self.second).is_err()
+    }
+
+    // Whether its first mark is not below its second.
+    fn is_turned(self) -> bool
+        ensures { result ≡ not (nat_lt self.first self.second) }
+    {
+        self.first >= self.second
+    }
+
+    // Whether the set holds the pair whole.
+    fn is_in(self, set: MarkSet) -> bool
+        ensures { result ≡ holds_pair set.bits self }
+    {
+        holds_number(set, self.first) && holds_number(set, self.second)
     }
 }
 
 /// Allows sets that hold none of some pairs of marks whole.
-#[derive(Clone, Copy)]
+#[derive(Clone, Copy, PartialEq, Eq, Debug)]
 pub struct Bars<'a> {
     pairs: &'a [Pair],
 }
@@ -41,82 +63,43 @@ pub struct Bars<'a> {
 fn holds_number(set: MarkSet, number: u64) -> bool
     ensures { result ≡ holds_number set.bits number }
 {
-    match Mark::new(number) {
-        Ok(mark) => set.holds(mark),
-        Err(_) => false,
-    }
-}
-
-// Whether the set holds a pair whole.
-fn holds_pair(set: MarkSet, pair: Pair) -> bool
-    ensures { result ≡ holds_pair set.bits pair }
-{
-    holds_number(set, pair.first) && holds_number(set, pair.second)
-}
-
-// Whether the set holds one of the pairs whole.
-fn holds_one(pairs: &[Pair], set: MarkSet) -> bool
-    ensures { result ≡ is_some (first_place (holds_pair set.bits) pairs.now) }
-{
-    for index in 0..pairs.len() {
-        if holds_pair(set, pairs[index]) {
-            return true;
-        }
-    }
-    false
-}
-
-// Whether an entry of the pair is no mark.
-fn is_off_range(pair: Pair) -> bool
-    ensures { result ≡ off_range pair }
-{
-    Mark::new(pair.first).is_err() || Mark::new(pair.second).is_err()
+    Mark::new(number).is_ok_and(|mark| set.holds(mark))
 }
 
 // The place of the first pair with an entry that is no mark.
 fn first_off_range(pairs: &[Pair]) -> Option<u64>
     ensures { result ≡ first_place off_range pairs.now }
 {
-    for index in 0..pairs.len() {
-        if is_off_range(pairs[index]) {
-            return Some(index as u64 + 1);
-        }
-    }
-    None
+    pairs
+        .iter()
+        .position(|pair| pair.is_off_range())
+        .map(|at| at as u64 + 1)
 }
 
 // How many pairs at the front come each after the one at its left.
 fn ordered_front(pairs: &[Pair]) -> usize
     ensures within { result ≤ length pairs.now }
     ensures rising { Rising PairBefore pairs.now result }
-    ensures stops { result < length pairs.now → (0 < result) × (After PairBefore pairs.now result → ⊥) }
+    ensures some { result < length pairs.now → 0 < result }
+    ensures stops { result < length pairs.now → After PairBefore pairs.now result → ⊥ }
 {
-    match first_unordered(pairs) {
-        Some(place) => place - 1,
-        None => pairs.len(),
-    }
+    first_unordered(pairs).map_or(pairs.len(), |place| place - 1)
 }
 
 // The place of the first pair that has not its lower mark first, or does not come after the one at its left.
 fn first_misplaced(pairs: &[Pair]) -> Option<u64>
     ensures { result ≡ first_place (misplaced pairs.now) (range_with_len 0 (length pairs.now)) }
 {
-    let ordered = ordered_front(pairs);
-    for index in 0..ordered {
-        if pairs[index].first >= pairs[index].second {
-            return Some(index as u64 + 1);
-        }
-    }
-    if ordered == pairs.len() {
-        return None;
-    }
-    Some(ordered as u64 + 1)
+    let turned = pairs.iter().position(|pair| pair.is_turned());
+    let at = turned.unwrap_or(pairs.len()).min(ordered_front(pairs));
+    (at < pairs.len()).then_some(at as u64 + 1)
 }
 
 impl<'a> Bars<'a> {
     /// The limit that bars these pairs.
     /// Refused: RANGE at the first pair with an entry outside 1 to 32; BAD PAIR at the first pair whose first mark is not below its second, or that does not come
     /// after the pair before it, by the first mark and then by the second.
+    #[tactic(auto, unfolding(crate::specs::Pairs::bars_refusal))]
     pub fn new(pairs: &'a [Pair]) -> Result<Bars<'a>, Refusal>
         ensures { Answers (bars_refusal pairs.now) (λ limit. limit.pairs.now ≡ pairs.now) result }
     {
@@ -130,14 +113,12 @@ impl<'a> Bars<'a> {
     }
 }
 
-impl Allows for Bars<'_> {
+impl Limit for Bars<'_> {
     ghost allowed = { λ limit. unbarred limit.pairs.now };
 
     fn allows(&self, set: MarkSet) -> bool {
-        !holds_one(self.pairs, set)
+        !self.pairs.iter().any(|pair| pair.is_in(set))
     }
-}
 
-impl Limit for Bars<'_> {
     ghost parts = { λ limit. unbarred_parts limit.pairs.now };
 }

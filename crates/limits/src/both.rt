@@ -2,11 +2,11 @@
 ghost use Rattle.std.specs.Prelude.{◌≡◌, ◌&&◌};
 ghost use Rattle.std.proofs.Common.{rules};
 
-use crate::limit::{Allows, Limit};
+use crate::limit::Limit;
 use marks::MarkSet;
 
 /// Allows what each of two limits allows.
-#[derive(Drop)]
+#[derive(Clone, Copy, PartialEq, Eq, Debug, Drop)]
 pub struct Both<L, R> {
     one: L,
     other: R,
@@ -20,14 +20,12 @@ impl<L: Limit, R: Limit> Both<L, R> {
     }
 }
 
-impl<L: Limit, R: Limit> Allows for Both<L, R> {
-    ghost allowed = { λ limit s. L.Allows.allowed limit.one s && R.Allows.allowed limit.other s };
+impl<L: Limit, R: Limit> Limit for Both<L, R> {
+    ghost allowed = { λ limit s. L.Limit.allowed limit.one s && R.Limit.allowed limit.other s };
 
     fn allows(&self, set: MarkSet) -> bool {
         self.one.allows(set) && self.other.allows(set)
     }
-}
 
-impl<L: Limit, R: Limit> Limit for Both<L, R> {
     ghost parts = { Prim.search rules };
 }

@@ -9,6 +9,6 @@ pub mod weight;
 
 pub use bars::{Bars, Pair};
 pub use both::Both;
-pub use limit::{Allows, Limit};
+pub use limit::Limit;
 pub use size::Size;
 pub use weight::{Weight, Weights};

@@ -3,11 +3,11 @@ ghost use Rattle.std.specs.Prelude.{◌≡◌};
 ghost use Rattle.limits.specs.Limits.{small};
 ghost use Rattle.limits.specs.Smallness.{small_parts};
 
-use crate::limit::{Allows, Limit};
+use crate::limit::Limit;
 use marks::MarkSet;
 
 /// Allows sets of at most so many marks.
-#[derive(Clone, Copy)]
+#[derive(Clone, Copy, PartialEq, Eq, Debug)]
 pub struct Size {
     most: u64,
 }
@@ -21,14 +21,12 @@ impl Size {
     }
 }
 
-impl Allows for Size {
+impl Limit for Size {
     ghost allowed = { λ limit. small limit.most };
 
     fn allows(&self, set: MarkSet) -> bool {
         u64::from(set.size()) <= self.most
     }
-}
 
-impl Limit for Size {
     ghost parts = { λ limit. small_parts limit.most };
 }

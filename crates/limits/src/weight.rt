@@ -1,34 +1,19 @@
 // The limit on weights.
-ghost use Rattle.std.specs.Prelude.{◌≡◌, length};
-ghost use Rattle.marks.specs.Numbers.{most_marks};
+ghost use Rattle.std.specs.Prelude.{◌≡◌};
 ghost use Rattle.limits.specs.Limits.{light, weight_of};
 ghost use Rattle.limits.specs.Smallness.{light_parts};
 
-use crate::limit::{Allows, Limit};
-use marks::MarkSet;
+use crate::limit::Limit;
+use marks::{MARKS, MarkSet};
 
 /// The weights of the 32 marks, that of mark i at i - 1.
-pub type Weights = [u16; 32];
+pub type Weights = [u16; MARKS];
 
 /// Allows sets whose marks weigh at most a cap together.
-#[derive(Clone, Copy)]
+#[derive(Clone, Copy, PartialEq, Eq, Debug)]
 pub struct Weight {
     weights: Weights,
     cap: u32,
-}
-
-// What the marks of a set weigh together.
-fn weigh(weights: &[u16], set: MarkSet) -> u64
-    requires { length weights.now ≡ most_marks }
-    ensures { result ≡ weight_of weights.now set.bits }
-{
-    let mut sum = 0;
-    let mut rest = set;
-    while let Some(mark) = rest.lowest() {
-        sum += u64::from(weights[mark.bit() as usize]);
-        rest = rest.without(mark);
-    }
-    sum
 }
 
 impl Weight {
@@ -38,16 +23,23 @@ impl Weight {
     {
         Weight { weights, cap }
     }
-}
 
-impl Allows for Weight {
-    ghost allowed = { λ limit. light limit.weights limit.cap };
-
-    fn allows(&self, set: MarkSet) -> bool {
-        weigh(&self.weights, set) <= u64::from(self.cap)
+    // What the marks of a set weigh together.
+    fn weigh(&self, set: MarkSet) -> u64
+        ensures { result ≡ weight_of self.now.weights set.bits }
+    {
+        set.marks()
+            .map(|mark| u64::from(self.weights[mark.bit() as usize]))
+            .sum()
     }
 }
 
 impl Limit for Weight {
+    ghost allowed = { λ limit. light limit.weights limit.cap };
+
+    fn allows(&self, set: MarkSet) -> bool {
+        self.weigh(set) <= u64::from(self.cap)
+    }
+
     ghost parts = { λ limit. light_parts limit.weights limit.cap };
 }

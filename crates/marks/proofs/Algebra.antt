@@ -9,9 +9,6 @@ use Rattle.marks.specs.Parts.{same_members, part_from_has, part_has, has_minus, 
 use lib.Count.{ones}
 use Rattle.marks.specs.Sizes.{ones_or_and, ones_zero}
 
-pub and_assoc : (x y z : ℕ) → bit_and (bit_and x y) z ≡ bit_and x (bit_and y z)
-and_assoc x y z = same_members (bit_and (bit_and x y) z) (bit_and x (bit_and y z)) (λ b. grind (arith, members))
-
 pub or_assoc : (x y z : ℕ) → bit_or (bit_or x y) z ≡ bit_or x (bit_or y z)
 or_assoc x y z = same_members (bit_or (bit_or x y) z) (bit_or x (bit_or y z)) (λ b. grind (arith, members))
 

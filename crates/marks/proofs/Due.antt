@@ -1,5 +1,5 @@
 -- Refusals that are due.
-use Rattle.std.proofs.Common.{◌≡◌, ℕ, Bool, true, false, not, leb, is_err, Some, None, Ok, Err, Option, Result, sym, refl, ap, arith}
+use Rattle.std.proofs.Common.{◌≡◌, ℕ, Bool, true, false, not, leb, is_err, IsOk, Some, None, Ok, Err, Option, Result, sym, refl, ap, arith}
 use Rattle.std.proofs.lemmas.Bool.{le-leb, and_from}
 use Rattle.marks.specs.declared.refusal.Reason.TheVariants.{Range}
 use Rattle.marks.specs.declared.refusal.Refusal.{Refusal}
@@ -24,3 +24,8 @@ refused_if true refusal P (Ok x) h = absurd (none_due None refusal refl (sym h.0
 refused_if true refusal P (Err e) h = refl
 refused_if false refusal P (Ok x) h = refl
 refused_if false refusal P (Err e) h = absurd (none_due None e refl h)
+
+-- a call that refuses nothing answers a value
+pub not_due : {A : Type 0} (due : Option Refusal) (P : A → Type 0) (r : Result A Refusal) → due ≡ None → Answers due P r → IsOk r
+not_due due P (Ok x) none h = refl
+not_due due P (Err e) none h = absurd (none_due due e none h)

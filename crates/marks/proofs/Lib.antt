@@ -5,5 +5,7 @@ pub mod Picks
 pub mod Membership
 pub mod Places
 pub mod Due
-pub mod Walks
 pub mod Neighbours
+pub mod Gathering
+pub mod Counting
+pub mod Decided

@@ -1,7 +1,8 @@
 -- The first element of a list that passes a test.
 use Rattle.std.proofs.Common.{◌≡◌, ℕ, zero, suc, ◌+◌, ◌<◌, Bool, true, false, cond, List, [], ◌∷◌, length, get_or, Some, None, Option, sym, refl, ap, ◌∙◌, arith}
-use Rattle.std.specs.List.{range_with_len}
+use Rattle.std.specs.List.{range_with_len, position, position_from}
 use Rattle.std.specs.Option.{option_map}
+use Rattle.std.proofs.lemmas.Iterator.Adapters.{position_from-zero}
 use Rattle.std.proofs.lemmas.List.FromFn.{length-range_with_len, get_or-range_with_len}
 use Rattle.marks.specs.Places.{first_place}
 
@@ -58,3 +59,26 @@ module _ (test : ℕ → Bool) (n : ℕ) where
 
   pub no_number_passes : first_place test (range_with_len 0 n) ≡ None → (k : ℕ) → k < n → test k ≡ false
   no_number_passes e k h = sym (ap test (at_number k h)) ∙ none_passes test 0 (range_with_len 0 n) e k (omega (arith, length-range_with_len 0 n))
+
+-- the place is one more than the position
+
+module _ {A : Type 0} (test : A → Bool) where
+  place_from : (i : ℕ) (xs : List A) → option_map (λ k. k + i) (first_place test xs) ≡ option_map (λ k. k + 1) (position_from test i xs)
+  place_from i [] = refl
+  place_from i (x ∷ xs) = by (test x) (place_from (i + 1) xs)
+    where
+      further : (o : Option ℕ) → option_map (λ k. k + i) (option_map (λ k. k + 1) o) ≡ option_map (λ k. k + (i + 1)) o
+      further None = refl
+      further (Some k) = let e : k + 1 + i ≡ k + (i + 1) = omega arith in ap (λ (n : ℕ). Some n) e
+
+      by : (b : Bool) → option_map (λ k. k + (i + 1)) (first_place test xs) ≡ option_map (λ k. k + 1) (position_from test (i + 1) xs)
+          → option_map (λ k. k + i) (cond b (Some 1) (option_map (λ k. k + 1) (first_place test xs))) ≡ option_map (λ k. k + 1) (cond b (Some i) (position_from test (i + 1) xs))
+      by true ih = let e : 1 + i ≡ i + 1 = omega arith in ap (λ (n : ℕ). Some n) e
+      by false ih = further (first_place test xs) ∙ ih
+
+  pub place_of : (xs : List A) (at : Option ℕ) → position test xs ≡ at → first_place test xs ≡ option_map (λ k. k + 1) at
+  place_of xs at e = unmoved (first_place test xs) ∙ place_from 0 xs ∙ ap (option_map (λ (k : ℕ). k + 1)) (sym (position_from-zero test xs) ∙ e)
+    where
+      unmoved : (o : Option ℕ) → o ≡ option_map (λ k. k + 0) o
+      unmoved None = refl
+      unmoved (Some k) = let e : k ≡ k + 0 = omega arith in ap (λ (n : ℕ). Some n) e

@@ -7,3 +7,4 @@ pub mod SetOrder
 pub mod Sizes
 pub mod Members
 pub mod Parts
+pub mod Kinds

@@ -1,5 +1,5 @@
 -- Refusals: the number of each reason, and what a call answers that may refuse.
-use Rattle.std.specs.Prelude.{◌≡◌, ℕ, Bool, cond, not, List, [], ◌∷◌, Some, None, Ok, Err, Option, Result}
+use Rattle.std.specs.Prelude.{◌≡◌, ℕ, Bool, cond, not, List, [], ◌∷◌, length, Some, None, Ok, Err, Option, Result}
 use Rattle.marks.specs.declared.refusal.Reason.{Reason}
 use Rattle.marks.specs.declared.refusal.Reason.TheVariants.{Form, Range, BadByte, BadNumber, BadRise, BadBlank, NoLineEnd, TooMany, NoPlace, Long, Ragged, Stray, WordCount, BadChoice, BadPair, OutOfOrder, ShortSlot, NothingYet, Clash, DeadEnd}
 use Rattle.marks.specs.declared.refusal.Refusal.{Refusal}
@@ -52,6 +52,11 @@ first_due (None ∷ rest) = first_due rest
 abbrev pub Answers : {A : Type 0} → Option Refusal → (A → Type 0) → Result A Refusal → Type 0
 Answers due P (Ok x) = (due ≡ None) × P x
 Answers due P (Err refusal) = due ≡ Some refusal
+
+-- What a call leaves of memory that it may write to: on acceptance as many bytes, and after a refusal the same.
+abbrev pub Kept : {A B : Type 0} → List B → List B → Result A Refusal → Type 0
+Kept old new (Ok x) = length new ≡ length old
+Kept old new (Err refusal) = new ≡ old
 
 -- making one of 1 to most from the number n
 abbrev pub range_refusal : ℕ → ℕ → Option Refusal

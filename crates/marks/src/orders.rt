@@ -5,6 +5,7 @@ ghost use Rattle.marks.specs.SetOrder.{before_irrefl, before_trans};
 
 use crate::sets::MarkSet;
 
+// A trait of its own, by a rule of the product: the check serves every strict order, and `PartialOrd` has to answer `Equal` exactly where `==` holds, as the order of records by their sets does not.
 /// A kind of element that has a strict order.
 pub trait StrictOrder {
     /// The one comes before the other.
@@ -25,12 +26,11 @@ pub trait StrictOrder {
 pub fn first_unordered<E: StrictOrder>(elements: &[E]) -> Option<usize>
     ensures { FirstUnordered E.StrictOrder.before elements.now result }
 {
-    for index in 1..elements.len() {
-        if !elements[index - 1].is_before(&elements[index]) {
-            return Some(index + 1);
-        }
-    }
-    None
+    let left = elements
+        .iter()
+        .zip(elements.iter().skip(1))
+        .position(|(left, right)| !left.is_before(right))?;
+    Some(left + 2)
 }
 
 // The list order of sets: the one that holds the lowest mark on which they differ comes first.
@@ -42,9 +42,8 @@ impl StrictOrder for MarkSet {
     ghost transitive = { λ x y z. before_trans x.bits y.bits z.bits };
 
     fn is_before(&self, other: &MarkSet) -> bool {
-        match self.symmetric_difference(*other).lowest() {
-            Some(mark) => self.holds(mark),
-            None => false,
-        }
+        self.symmetric_difference(*other)
+            .lowest()
+            .is_some_and(|mark| self.holds(mark))
     }
 }

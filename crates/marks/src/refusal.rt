@@ -1,13 +1,9 @@
 // Why a call refuses, and where.
-ghost use Rattle.std.specs.Prelude.{◌≡◌, Decides, ◌==◌};
+ghost use Rattle.std.specs.Prelude.{◌≡◌, ◌==◌};
 ghost use Rattle.marks.specs.Refusals.{number_of, placed_at_two, placed_at, unplaced};
-ghost use Rattle.std.proofs.Common.{rules};
-ghost use Rattle.std.specs.Cmp.{partial_equiv_from_equiv};
-ghost use Rattle.std.specs.Cmp.Rules.{comparing};
-ghost use Rattle.std.specs.Ordering.{on};
 
 /// The reasons for a refusal, each with the number by which users know it.
-#[derive(Clone, Copy, Eq, Debug)]
+#[derive(Debug, Clone, Copy, PartialEq, Eq)]
 pub enum Reason {
     Form = 1,
     Range = 2,
@@ -36,31 +32,20 @@ pub enum Reason {
 #[derive(Clone, Copy, PartialEq, Eq, Debug)]
 pub struct Refusal {
     reason: Reason,
+    // By a rule of the product a place that is not named is 0.
     first: u64,
     second: u64,
 }
 
 impl Reason {
+    // A method, as a refusal's number is, and not `From`, which is no plainer.
     /// The number by which users know the reason: no other reason has it.
     pub fn number(self) -> u64
         ensures value { result ≡ number_of self }
         ensures own { (other : Reason) → number_of other ≡ result → other ≡ self }
+        ensures same { (other : Reason) → ⟦<Reason as PartialEq>⟧.eq self other ≡ (number_of self == number_of other) }
     {
         self as u64
-    }
-}
-
-/// Reasons are the same where their numbers are.
-impl PartialEq for Reason {
-    ghost eq = { on number_of ◌==◌ };
-
-    ghost laws = { partial_equiv_from_equiv (Prim.search (comparing, rules)) };
-
-    fn eq(&self, other: &Reason) -> bool
-        ensures value { result ≡ on number_of ◌==◌ self.now other.now }
-        ensures same { Decides result (self.now ≡ other.now) }
-    {
-        self.number() == other.number()
     }
 }
 

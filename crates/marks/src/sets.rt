@@ -1,7 +1,8 @@
 // Sets of marks. Each operation promises the set that a definition gives; which marks these sets have is promised once, by `holds`.
-ghost use Rattle.std.specs.Prelude.{◌≡◌, if◌then◌else◌, MatchOption, ◌==◌};
-ghost use Rattle.marks.specs.Numbers.{bit_of};
-ghost use Rattle.marks.specs.Sets.{has, no_marks, only, all_below, either, both, differing, minus, with_bit, without_bit, part_of, size_of, Lowest, Highest, Membership};
+ghost use Rattle.std.specs.Prelude.{◌≡◌, ℕ, ◌^◌, ◌<◌, Bool, true, ◌&&◌, if◌then◌else◌, MatchOption, ◌==◌};
+ghost use Rattle.std.specs.Iterator.{YieldsFirstBy, item_count};
+ghost use Rattle.marks.specs.Numbers.{bit_of, most_marks};
+ghost use Rattle.marks.specs.Sets.{bits_below, has, no_marks, only, all_below, either, both, differing, minus, with_bit, without_bit, part_of, size_of, Lowest, Highest, Membership};
 
 use crate::numbers::MOST_MARKS;
 use crate::numbers::mark::Mark;
@@ -14,6 +15,7 @@ pub struct MarkSet {
 }
 
 impl MarkSet {
+    // `from_bits` and `bits`, and not `From`, which is no plainer: it would let any number pass for a set with nothing said of bits.
     /// The set that is kept as this number.
     pub fn from_bits(bits: u32) -> MarkSet
         ensures { result.bits ≡ bits }
@@ -167,5 +169,45 @@ impl MarkSet {
             return None;
         }
         Some(Mark::at_bit(MOST_MARKS - 1 - self.bits.leading_zeros()))
+    }
+
+    /// The marks of the set, from the lowest on.
+    pub fn marks(self) -> Marks
+        ensures { result.rest ≡ self }
+    {
+        Marks { rest: self }
+    }
+
+    /// The marks of the set for which the test answers true.
+    pub fn filter<F: Fn(Mark) -> bool>(self, test: F) -> MarkSet
+        requires { (mark : _) → has self.bits (bit_of mark.number) ≡ true → F.pre test mark }
+        ensures { (passes : ℕ → Bool) → ((mark : _) (answer : Bool) → has self.bits (bit_of mark.number) ≡ true → F.post test mark answer → answer ≡ passes (bit_of mark.number)) → (b : ℕ) → has result.bits b ≡ (has self.bits b && passes b) }
+    {
+        let mut kept = MarkSet::empty();
+        for mark in self.marks() {
+            kept = kept.with_if(mark, test(mark));
+        }
+        kept
+    }
+}
+
+/// Goes over the marks of a set, from the lowest on.
+#[derive(Clone, Copy, Debug)]
+pub struct Marks {
+    rest: MarkSet,
+    ghost fits: { rest.bits < 2 ^ most_marks },
+}
+
+impl Iterator for Marks {
+    type Item = Mark;
+
+    ghost next_gives = { YieldsFirstBy (λ mark. bit_of mark.number) (λ marks. bits_below most_marks marks.rest.bits) };
+
+    ghost remaining = { item_count (λ marks. bits_below most_marks marks.rest.bits) };
+
+    fn next(&mut self) -> Option<Mark> {
+        let mark = self.rest.lowest()?;
+        self.rest = self.rest.without(mark);
+        Some(mark)
     }
 }

@@ -1,12 +1,12 @@
 // Limits at their edges, and the check of neighbours.
-use crate::told::{ACCEPTED, told};
+use crate::replaced::replace;
 use crate::within::Within;
-use limits::{Allows, Bars, Both, Limit, Pair, Size, Weight};
-use marks::{MarkSet, first_unordered};
+use limits::{Bars, Both, Limit, Pair, Size, Weight};
+use marks::{MarkSet, Reason, Refusal, first_unordered};
 use std::test::Fail;
 
 // Which of the sets {}, {1}, {1, 2} and {1, .., 32} a limit allows.
-fn seen<L: Allows>(limit: &L) -> (bool, bool, bool, bool) {
+fn seen<L: Limit>(limit: &L) -> (bool, bool, bool, bool) {
     (
         limit.allows(MarkSet::empty()),
         limit.allows(MarkSet::from_bits(1)),
@@ -70,83 +70,66 @@ fn a_limit_of_ones_own(rt: HostRuntime) {
     );
 }
 
-const NONE: Pair = Pair {
-    first: 0,
-    second: 0,
-};
+fn pair(first: u64, second: u64) -> Pair {
+    Pair { first, second }
+}
 
-// What the pairs (1, 2), (1, 3), (2, 3) tell, with one of them put in the place of another.
-fn tells(at: usize, first: u64, second: u64) -> (u64, u64, u64) {
-    let mut pairs = [
-        Pair {
-            first: 1,
-            second: 2,
-        },
-        Pair {
-            first: 1,
-            second: 3,
-        },
-        Pair {
-            first: 2,
-            second: 3,
-        },
-    ];
-    if at < 3 {
-        pairs[at] = Pair { first, second };
-    }
-    told(Bars::new(&pairs))
+// The refusal of the pairs (1, 2), (1, 3), (2, 3), where another pair may be put at a place, if they are refused.
+fn refusal(put: Option<(usize, Pair)>) -> Option<Refusal> {
+    let mut pairs = [pair(1, 2), pair(1, 3), pair(2, 3)];
+    replace(&mut pairs, put);
+    Bars::new(&pairs).err()
 }
 
 #[test]
 fn pairs_in_order(rt: HostRuntime) {
-    assert_eq!(rt; told(Bars::new(&[])), ACCEPTED);
-    assert_eq!(rt; tells(3, 0, 0), ACCEPTED);
-    assert_eq!(rt; tells(1, 1, 2), (15, 2, 0));
-    assert_eq!(rt; tells(2, 1, 3), (15, 3, 0));
-    assert_eq!(rt; tells(2, 1, 2), (15, 3, 0));
-    assert_eq!(rt; tells(0, 2, 1), (15, 1, 0));
-    assert_eq!(rt; tells(1, 5, 5), (15, 2, 0));
-    assert_eq!(rt; tells(2, 32, 31), (15, 3, 0));
+    assert_eq!(rt; Bars::new(&[]).err(), None);
+    assert_eq!(rt; refusal(None), None);
+    assert_eq!(rt;
+        refusal(Some((1, pair(1, 2)))),
+        Some(Refusal::at(Reason::BadPair, 2))
+    );
+    assert_eq!(rt;
+        refusal(Some((2, pair(1, 3)))),
+        Some(Refusal::at(Reason::BadPair, 3))
+    );
+    assert_eq!(rt;
+        refusal(Some((2, pair(1, 2)))),
+        Some(Refusal::at(Reason::BadPair, 3))
+    );
+    assert_eq!(rt;
+        refusal(Some((0, pair(2, 1)))),
+        Some(Refusal::at(Reason::BadPair, 1))
+    );
+    assert_eq!(rt;
+        refusal(Some((1, pair(5, 5)))),
+        Some(Refusal::at(Reason::BadPair, 2))
+    );
+    assert_eq!(rt;
+        refusal(Some((2, pair(32, 31)))),
+        Some(Refusal::at(Reason::BadPair, 3))
+    );
 }
 
 #[test]
 fn entries_in_range(rt: HostRuntime) {
-    assert_eq!(rt; tells(0, 0, 1), (2, 1, 0));
-    assert_eq!(rt; tells(2, 3, 33), (2, 3, 0));
-    assert_eq!(rt; tells(1, 4_294_967_297, 2), (2, 2, 0));
-    let both = [
-        Pair {
-            first: 2,
-            second: 1,
-        },
-        Pair {
-            first: 3,
-            second: 33,
-        },
-    ];
-    assert_eq!(rt; told(Bars::new(&both)), (2, 2, 0));
-    let zero = [
-        Pair {
-            first: 2,
-            second: 1,
-        },
-        NONE,
-    ];
-    assert_eq!(rt; told(Bars::new(&zero)), (2, 2, 0));
+    assert_eq!(rt;
+        refusal(Some((0, pair(0, 1)))),
+        Some(Refusal::at(Reason::Range, 1))
+    );
+    assert_eq!(rt;
+        refusal(Some((2, pair(3, 33)))),
+        Some(Refusal::at(Reason::Range, 3))
+    );
+    let second = Some(Refusal::at(Reason::Range, 2));
+    assert_eq!(rt; refusal(Some((1, pair(4_294_967_297, 2)))), second);
+    assert_eq!(rt; Bars::new(&[pair(2, 1), pair(3, 33)]).err(), second);
+    assert_eq!(rt; Bars::new(&[pair(2, 1), pair(0, 0)]).err(), second);
 }
 
 #[test]
 fn barred_pairs(rt: HostRuntime) -> Result<(), Fail> {
-    let pairs = [
-        Pair {
-            first: 1,
-            second: 2,
-        },
-        Pair {
-            first: 31,
-            second: 32,
-        },
-    ];
+    let pairs = [pair(1, 2), pair(31, 32)];
     let bars = Bars::new(&pairs)?;
     assert_eq!(rt; seen(&bars), (true, true, false, false));
     assert!(rt; bars.allows(MarkSet::from_bits(0x7fff_fffd)));

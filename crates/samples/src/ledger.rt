@@ -4,10 +4,10 @@ ghost use Rattle.tables.specs.Meaning.{trimmed};
 ghost use Rattle.tables.specs.Trimmed.{trimmed_proper};
 
 use marks::{Charge, MOST_CHARGES, MarkSet, Width};
-use tables::{Rows, Table};
+use tables::Table;
 
 /// Rows that a program has gathered. What is not proper in them is left out: rows past 65,536, and in each row the marks above the width.
-#[derive(Drop)]
+#[derive(Debug, Drop)]
 pub struct Ledger {
     rows: Vec<u32>,
     width: Width,
@@ -21,27 +21,23 @@ impl Ledger {
     }
 }
 
-impl Rows for Ledger {
+impl Table for Ledger {
     ghost meaning = { λ ledger. trimmed ledger.width.number ledger.rows.items };
 
+    #[tactic(auto, using(tables::specs::Trimmed::trimmed_width))]
     fn width(&self) -> Width {
         self.width
     }
 
+    #[tactic(auto, using(tables::specs::Trimmed::trimmed_count))]
     fn count(&self) -> u32 {
         self.rows.len().min(MOST_CHARGES as usize) as u32
     }
 
     fn row(&self, charge: Charge) -> MarkSet {
-        if charge.get() > self.count() {
-            return MarkSet::empty();
-        }
-        MarkSet::from_bits(self.rows[charge.get() as usize - 1]).intersection(MarkSet::up_to(
-            self.width,
-        ))
+        let row = self.rows.get(charge.place()).copied();
+        MarkSet::from_bits(row.unwrap_or(0)).intersection(MarkSet::up_to(self.width))
     }
-}
 
-impl Table for Ledger {
     ghost proper = { λ ledger. trimmed_proper ledger.width.number ledger.rows.items };
 }

@@ -18,20 +18,19 @@ mod printed;
 #[cfg(test)]
 mod records;
 #[cfg(test)]
+mod refusals;
+#[cfg(test)]
 mod sets;
 pub mod within;
 
 #[cfg(test)]
-mod told {
-    use marks::Refusal;
-
-    pub const ACCEPTED: (u64, u64, u64) = (0, 0, 0);
-
-    // What a call told: 0 0 0 where it accepted, else the refusal's number and places.
-    pub fn told<T: Drop>(answer: Result<T, Refusal>) -> (u64, u64, u64) {
-        match answer {
-            Ok(_) => (0, 0, 0),
-            Err(refusal) => (refusal.number(), refusal.first(), refusal.second()),
+mod replaced {
+    // Puts an item in the place of another, if one is given and there is such a place.
+    pub fn replace<T: Copy>(items: &mut [T], put: Option<(usize, T)>) {
+        if let Some((at, item)) = put
+            && let Some(place) = items.get_mut(at)
+        {
+            *place = item;
         }
     }
 }

@@ -1,49 +1,63 @@
 // Packed tables at their edges.
-use crate::told::{ACCEPTED, told};
-use marks::{Charge, MarkSet, Width};
+use marks::{Charge, MarkSet, Reason, Refusal, Width};
 use std::alloc::Global;
 use std::test::Fail;
-use tables::{Holding, Packed, Rows};
+use tables::{Holding, Packed, Table};
 
-const RAGGED: (u64, u64, u64) = (11, 0, 0);
-
-const TOO_MANY: (u64, u64, u64) = (8, 0, 0);
-
-// What the packed table tells of `rows` rows of mark 1, with mark 6 besides at one place, and `more` bytes, at width 5.
-fn tells(heap: Global, rows: usize, stray: usize, more: usize) -> Result<(u64, u64, u64), Fail> {
+// The refusal of `rows` rows of mark 1, with mark 6 besides in the row at `stray`, and of more bytes, at width 5, if they are refused.
+fn refusal(
+    heap: Global,
+    rows: usize,
+    stray: Option<usize>,
+    more: &[u8],
+) -> Result<Option<Refusal>, Fail> {
     let mut bytes: Vec<u8> = Vec::new(heap);
+    // Over the numbers of the rows, since the number says which row has mark 6.
     for row in 0..rows {
-        let marks: u8 = if row == stray { 33 } else { 1 };
+        let marks = if stray == Some(row) { 33 } else { 1 };
         bytes.extend_from_slice(&[marks, 0, 0, 0])?;
     }
-    for _ in 0..more {
-        bytes.push(0)?;
-    }
-    Ok(told(Packed::new(bytes.as_slice(), Width::new(5)?)))
+    bytes.extend_from_slice(more)?;
+    Ok(Packed::new(bytes.as_slice(), Width::new(5)?).err())
 }
 
 #[test]
 fn whole_rows_only(rt: HostRuntime) -> Result<(), Fail> {
-    assert_eq!(rt; tells(rt.alloc(), 0, 9, 0)?, ACCEPTED);
-    assert_eq!(rt; tells(rt.alloc(), 0, 9, 3)?, RAGGED);
-    assert_eq!(rt; tells(rt.alloc(), 1, 0, 1)?, RAGGED);
+    let ragged = Some(Refusal::unplaced(Reason::Ragged));
+    assert_eq!(rt; refusal(rt.alloc(), 0, None, &[])?, None);
+    assert_eq!(rt; refusal(rt.alloc(), 0, None, &[0, 0, 0])?, ragged);
+    assert_eq!(rt; refusal(rt.alloc(), 1, Some(0), &[0])?, ragged);
     Ok(())
 }
 
 #[test]
 fn at_most_65536_charges(rt: HostRuntime) -> Result<(), Fail> {
-    assert_eq!(rt; tells(rt.alloc(), 65_536, 65_536, 0)?, ACCEPTED);
-    assert_eq!(rt; tells(rt.alloc(), 65_537, 0, 0)?, TOO_MANY);
-    assert_eq!(rt; tells(rt.alloc(), 65_537, 0, 1)?, RAGGED);
+    let too_many = Some(Refusal::unplaced(Reason::TooMany));
+    let ragged = Some(Refusal::unplaced(Reason::Ragged));
+    assert_eq!(rt; refusal(rt.alloc(), 65_536, None, &[])?, None);
+    assert_eq!(rt; refusal(rt.alloc(), 65_537, Some(0), &[])?, too_many);
+    assert_eq!(rt; refusal(rt.alloc(), 65_537, Some(0), &[0])?, ragged);
     Ok(())
 }
 
 #[test]
 fn no_mark_above_the_width(rt: HostRuntime) -> Result<(), Fail> {
-    assert_eq!(rt; tells(rt.alloc(), 5, 0, 0)?, (12, 1, 0));
-    assert_eq!(rt; tells(rt.alloc(), 5, 2, 0)?, (12, 3, 0));
-    assert_eq!(rt; tells(rt.alloc(), 5, 4, 0)?, (12, 5, 0));
-    assert_eq!(rt; tells(rt.alloc(), 65_536, 65_535, 0)?, (12, 65_536, 0));
+    assert_eq!(rt;
+        refusal(rt.alloc(), 5, Some(0), &[])?,
+        Some(Refusal::at(Reason::Stray, 1))
+    );
+    assert_eq!(rt;
+        refusal(rt.alloc(), 5, Some(2), &[])?,
+        Some(Refusal::at(Reason::Stray, 3))
+    );
+    assert_eq!(rt;
+        refusal(rt.alloc(), 5, Some(4), &[])?,
+        Some(Refusal::at(Reason::Stray, 5))
+    );
+    assert_eq!(rt;
+        refusal(rt.alloc(), 65_536, Some(65_535), &[])?,
+        Some(Refusal::at(Reason::Stray, 65_536))
+    );
     Ok(())
 }
 

@@ -1,25 +1,16 @@
 // Printed lines at their edges.
-use crate::told::told;
 use found::{end_line, fault_line, line};
 use marks::{MarkSet, Reason, Refusal};
 use std::test::Fail;
 
-const NO_PLACE: (u64, u64, u64) = (9, 0, 0);
-
 // Whether nothing was written.
 fn untouched(memory: &[u8]) -> bool {
-    for byte in memory {
-        if *byte != b'*' {
-            return false;
-        }
-    }
-    true
+    memory.iter().all(|byte| *byte == b'*')
 }
 
 // Whether a text stands at the front of memory, and past it nothing was written.
 fn shows(memory: &[u8], text: &[u8]) -> bool {
-    let size = text.len();
-    size <= memory.len() && &memory[0..size] == text && untouched(&memory[size..memory.len()])
+    memory.strip_prefix(text).is_some_and(untouched)
 }
 
 #[test]
@@ -89,10 +80,11 @@ fn last_lines(rt: HostRuntime) -> Result<(), Fail> {
 
 #[test]
 fn room_for_a_line_of_a_set(rt: HostRuntime) -> Result<(), Fail> {
+    let no_place = Err(Refusal::unplaced(Reason::NoPlace));
     let mut none = [0; 0];
-    assert_eq!(rt; told(line(MarkSet::empty(), 0, &mut none)), NO_PLACE);
+    assert_eq!(rt; line(MarkSet::empty(), 0, &mut none), no_place);
     let mut short = [b'*'; 9];
-    assert_eq!(rt; told(line(MarkSet::from_bits(11), 2, &mut short)), NO_PLACE);
+    assert_eq!(rt; line(MarkSet::from_bits(11), 2, &mut short), no_place);
     assert!(rt; untouched(&short));
     let mut exact = [b'*'; 10];
     assert_eq!(rt; line(MarkSet::from_bits(11), 2, &mut exact)?, 10);
@@ -104,7 +96,10 @@ fn room_for_a_line_of_a_set(rt: HostRuntime) -> Result<(), Fail> {
 fn room_for_a_line_of_a_refusal(rt: HostRuntime) -> Result<(), Fail> {
     let refusal = Refusal::at_line(Reason::BadRise, 1, 3);
     let mut short = [b'*'; 23];
-    assert_eq!(rt; told(fault_line(refusal, &mut short)), NO_PLACE);
+    assert_eq!(rt;
+        fault_line(refusal, &mut short),
+        Err(Refusal::unplaced(Reason::NoPlace))
+    );
     assert!(rt; untouched(&short));
     let mut exact = [b'*'; 24];
     assert_eq!(rt; fault_line(refusal, &mut exact)?, 24);
@@ -115,7 +110,10 @@ fn room_for_a_line_of_a_refusal(rt: HostRuntime) -> Result<(), Fail> {
 #[test]
 fn room_for_a_last_line(rt: HostRuntime) -> Result<(), Fail> {
     let mut short = [b'*'; 15];
-    assert_eq!(rt; told(end_line(5, 9, &mut short)), NO_PLACE);
+    assert_eq!(rt;
+        end_line(5, 9, &mut short),
+        Err(Refusal::unplaced(Reason::NoPlace))
+    );
     assert!(rt; untouched(&short));
     let mut exact = [b'*'; 16];
     assert_eq!(rt; end_line(5, 9, &mut exact)?, 16);

@@ -12,23 +12,16 @@ fn marks_up_to_a_width(rt: HostRuntime) -> Result<(), Fail> {
     Ok(())
 }
 
-// The number of a mark, or 0 where there is none.
-fn number(mark: Option<Mark>) -> u32 {
-    match mark {
-        Some(mark) => mark.get(),
-        None => 0,
-    }
-}
-
 #[test]
 fn lowest_and_highest(rt: HostRuntime) -> Result<(), Fail> {
-    assert_eq!(rt; number(MarkSet::empty().lowest()), 0);
-    assert_eq!(rt; number(MarkSet::empty().highest()), 0);
-    let ends = MarkSet::empty().with(Mark::new(1)?).with(Mark::new(32)?);
+    assert_eq!(rt; MarkSet::empty().lowest(), None);
+    assert_eq!(rt; MarkSet::empty().highest(), None);
+    let (first, last) = (Mark::new(1)?, Mark::new(32)?);
+    let ends = MarkSet::empty().with(first).with(last);
     assert_eq!(rt; ends.size(), 2);
-    assert_eq!(rt; number(ends.lowest()), 1);
-    assert_eq!(rt; number(ends.highest()), 32);
-    assert_eq!(rt; number(ends.without(Mark::new(1)?).lowest()), 32);
+    assert_eq!(rt; ends.lowest(), Some(first));
+    assert_eq!(rt; ends.highest(), Some(last));
+    assert_eq!(rt; ends.without(first).lowest(), Some(last));
     Ok(())
 }
 
@@ -42,5 +35,16 @@ fn sets_of_marks(rt: HostRuntime) -> Result<(), Fail> {
     assert!(rt; a.intersection(b).is_part_of(a));
     assert!(rt; !a.is_part_of(b));
     assert!(rt; a.holds(Mark::new(2)?) && !a.holds(Mark::new(1)?));
+    Ok(())
+}
+
+#[test]
+fn marks_in_turn(rt: HostRuntime) -> Result<(), Fail> {
+    let mut marks = MarkSet::from_bits(0x8000_0005).marks();
+    assert_eq!(rt; marks.next(), Some(Mark::new(1)?));
+    assert_eq!(rt; marks.next(), Some(Mark::new(3)?));
+    assert_eq!(rt; marks.next(), Some(Mark::new(32)?));
+    assert_eq!(rt; marks.next(), None);
+    assert_eq!(rt; marks.next(), None);
     Ok(())
 }

@@ -1,4 +1,6 @@
-pub mod Bytes
+pub mod Across
+pub mod Made
+pub mod Occurring
 pub mod Packing
 pub mod Passing
 pub mod Turned

@@ -22,10 +22,14 @@ use Rattle.tables.specs.Columned.{column_count, column_at, columns_same, accepte
 abbrev pub slot : ℕ → ℕ → ℕ → ℕ
 slot per t b = b * per + t / word_bits
 
-pub slot_below : (per t n b : ℕ) → b < n → t / word_bits < per → slot per t b < n * per
-slot_below per t n b low inside =
+-- the words of the mark at bit b are among those of n marks
+pub marks_words : (per n b : ℕ) → b < n → b * per + per ≤ n * per
+marks_words per n b low =
     let more : (b + 1) * per ≤ n * per = mul-le (b + 1) per n per (omega arith) (omega arith) in
     omega (arith, add-mul b 1 per)
+
+slot_below : (per t n b : ℕ) → b < n → t / word_bits < per → slot per t b < n * per
+slot_below per t n b low inside = omega (arith, marks_words per n b low)
 
 module _ (per t row : ℕ) (inside : t / word_bits < per) (fits : row < 2 ^ 32) where
   slot_mark : (b : ℕ) → slot per t b / per ≡ b

@@ -6,7 +6,7 @@ use Rattle.std.proofs.Math.Logic.{inl, inr}
 use Rattle.std.specs.List.{range_with_len}
 use Rattle.std.proofs.lemmas.List.{get_or_past, get_or-take, get_or-map, length-take, length-map, ext_get_or}
 use Rattle.std.proofs.lemmas.Bool.{cases_lt, eq-eqb, ne_eqb, lt-ltb, le-ltb, both_ways, not-false, and_parts, leb-true, eqb-false}
-use Rattle.marks.specs.declared.numbers.mark.Mark.{Mark}
+use Rattle.marks.specs.Kinds.{Mark}
 use Rattle.marks.specs.declared.refusal.Reason.TheVariants.{Range, BadChoice}
 use Rattle.marks.specs.Numbers.{most_marks, InRange, in_range, bit_of}
 use Rattle.marks.specs.Places.{first_place}

@@ -1,6 +1,7 @@
 pub mod Meaning
 pub mod Holding
 pub mod Packed
+pub mod Chunked
 pub mod Columns
 pub mod Layers
 pub mod Chosen

@@ -1,5 +1,5 @@
 -- A packed table: four bytes to a charge, low byte first.
-use Rattle.std.specs.Prelude.{ℕ, ◌+◌, ◌*◌, ◌/◌, ◌%◌, Bool, not, List, [], ◌∷◌, length, Option, ◌==◌, nat_lt}
+use Rattle.std.specs.Prelude.{ℕ, ◌+◌, ◌*◌, ◌/◌, ◌%◌, Bool, not, List, [], ◌∷◌, map, length, Option, ◌==◌, nat_lt, slice_index}
 use Rattle.std.specs.Option.{option_map}
 use Rattle.marks.specs.declared.refusal.Reason.TheVariants.{Ragged, TooMany, Stray}
 use Rattle.marks.specs.declared.refusal.Refusal.{Refusal}
@@ -7,7 +7,7 @@ use Rattle.marks.specs.Numbers.{most_charges}
 use Rattle.marks.specs.Places.{first_place}
 use Rattle.marks.specs.Refusals.{unplaced, placed_at, due_if, first_due}
 use Rattle.marks.specs.Sets.{part_of, all_below}
-use Rattle.tables.specs.Meaning.{Meaning, trimmed}
+use Rattle.tables.specs.Meaning.{Meaning}
 
 -- how many bytes a row has
 abbrev pub row_bytes : ℕ
@@ -20,6 +20,13 @@ packed_rows (a ∷ []) = []
 packed_rows (a ∷ b ∷ []) = []
 packed_rows (a ∷ b ∷ c ∷ []) = []
 packed_rows (a ∷ b ∷ c ∷ d ∷ rest) = (a + b * 256 + c * 65536 + d * 16777216) ∷ packed_rows rest
+
+-- the row that a chunk of four bytes holds, and those of a list of chunks
+abbrev pub chunk_row : List ℕ → ℕ
+chunk_row bytes = slice_index bytes 0 + slice_index bytes 1 * 256 + slice_index bytes 2 * 65536 + slice_index bytes 3 * 16777216
+
+abbrev pub chunk_rows : List (List ℕ) → List ℕ
+chunk_rows chunks = map chunk_row chunks
 
 -- a row has a mark that is not among all of them
 abbrev pub strays : ℕ → ℕ → Bool
@@ -34,6 +41,6 @@ packed_refusal bytes n =
     ∷ option_map (placed_at Stray) (first_place (strays (all_below n)) (packed_rows bytes))
     ∷ [])
 
--- what a packed table means, for any number in the place of its width and any bytes
-abbrev pub packed_meaning : ℕ → List ℕ → Meaning
-packed_meaning n bytes = trimmed n (packed_rows bytes)
+-- what a packed table of the width n over chunks means
+abbrev pub packed_meaning : ℕ → List (List ℕ) → Meaning
+packed_meaning n chunks = record { width = n; rows = chunk_rows chunks }

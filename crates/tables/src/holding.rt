@@ -1,6 +1,5 @@
 // What the charges that hold a set of marks say of it.
-ghost use Rattle.std.specs.Prelude.{◌≡◌, ◌+◌, ◌<◌, if◌then◌else◌, bit_and};
-ghost use Rattle.marks.specs.Numbers.{most_charges};
+ghost use Rattle.std.specs.Prelude.{◌≡◌, if◌then◌else◌};
 ghost use Rattle.tables.specs.Holding.{held_by, support_of, closure_of, unheld, joined};
 
 use crate::table::Table;
@@ -16,15 +15,12 @@ pub struct Holding {
 impl Holding {
     /// The support and closure of `set` in `table`, from one pass over its charges.
     pub fn of<T: Table>(table: &T, set: MarkSet) -> Holding
-        ensures support { result.support ≡ support_of (T.Rows.meaning table.now) set.bits }
-        ensures closure { result.closure.bits ≡ closure_of (T.Rows.meaning table.now) set.bits }
+        ensures support { result.support ≡ support_of (T.Table.meaning table.now) set.bits }
+        ensures closure { result.closure.bits ≡ closure_of (T.Table.meaning table.now) set.bits }
     {
-        let count = table.count();
         let mut holding = Holding::unheld(table.width());
-        let mut next = Charge::first(count);
-        while let Some(charge) = next {
+        for charge in Charge::up_to(table.count()) {
             holding.note(set, table.row(charge));
-            next = charge.next(count);
         }
         holding
     }
@@ -51,9 +47,7 @@ impl Holding {
 
     // One charge more, which may hold the set.
     fn note(&mut self, set: MarkSet, row: MarkSet)
-        requires { self.old.support < most_charges }
-        ensures support { self.new.support ≡ self.old.support + (if held_by set.bits row.bits then 1 else 0) }
-        ensures closure { self.new.closure.bits ≡ (if held_by set.bits row.bits then bit_and self.old.closure.bits row.bits else self.old.closure.bits) }
+        ensures { self.new ≡ (if held_by set.bits row.bits then joined row.bits self.old else self.old) }
     {
         if set.is_part_of(row) {
             self.join(row);

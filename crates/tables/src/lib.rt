@@ -15,4 +15,4 @@ pub use layers::reverse::Reverse;
 pub use layers::selection::Selection;
 pub use layers::window::Window;
 pub use packed::{Packed, ROW_BYTES};
-pub use table::{Rows, Table};
+pub use table::Table;

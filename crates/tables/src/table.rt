@@ -4,8 +4,8 @@ ghost use Rattle.tables.specs.Meaning.{Meaning, Proper, count_of, row_of};
 
 use marks::{Charge, MarkSet, Width};
 
-/// What can be asked of a table. Each answer follows from the table's meaning, so it is the same each time.
-pub trait Rows {
+/// A table of charges. Each answer follows from the table's meaning, so it is the same each time.
+pub trait Table {
     /// What the table means.
     ghost meaning: { Self → Meaning };
 
@@ -20,16 +20,14 @@ pub trait Rows {
     /// The marks of a charge: none past the count.
     fn row(&self, charge: Charge) -> MarkSet
         ensures { result.bits ≡ row_of (meaning self.now) charge.number };
-}
 
-/// A table: its meaning is proper.
-pub trait Table: Rows {
-    ghost proper: { (table : Self) → Proper (Self.Rows.meaning table) };
+    // The meaning is proper.
+    ghost proper: { (table : Self) → Proper (meaning table) };
 }
 
 // A table that is lent is a table.
-impl<U: Rows> Rows for &U {
-    ghost meaning = { λ table. U.Rows.meaning table.now };
+impl<U: Table> Table for &U {
+    ghost meaning = { λ table. U.Table.meaning table.now };
 
     fn width(&self) -> Width {
         (**self).width()
@@ -42,8 +40,6 @@ impl<U: Rows> Rows for &U {
     fn row(&self, charge: Charge) -> MarkSet {
         (**self).row(charge)
     }
-}
 
-impl<U: Table> Table for &U {
     ghost proper = { λ table. U.Table.proper table.now };
 }

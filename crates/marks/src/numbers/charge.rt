@@ -1,32 +1,24 @@
 // Charges.
-ghost use Rattle.std.specs.Prelude.{◌≡◌, ◌+◌, ◌<◌, ◌≤◌, min, MatchOption};
-ghost use Rattle.marks.specs.Numbers.{most_charges, InRange};
-ghost use Rattle.marks.specs.Refusals.{Answers, range_refusal};
+ghost use Rattle.std.specs.Prelude.{◌≡◌, ◌+◌, ◌-◌, ◌<◌, ◌≤◌, min, MatchOption};
+ghost use Rattle.std.specs.Iterator.{YieldsFirstBy, item_count};
+ghost use Rattle.std.specs.List.{range_with_len};
+ghost use Rattle.marks.specs.Numbers.{most_charges};
 
-use crate::numbers::{MOST_CHARGES, in_range};
-use crate::refusal::Refusal;
+use crate::numbers::{MOST_CHARGES, Number};
+
+/// The kind of charges.
+pub enum ChargeKind {}
 
 /// A charge: one feeding of the furnace, by its number in the log.
-#[derive(Clone, Copy, PartialEq, Eq, Debug)]
-pub struct Charge {
-    number: u32,
-    ghost range: { InRange most_charges number },
-}
+pub type Charge = Number<ChargeKind, MOST_CHARGES>;
 
-impl Charge {
-    /// The charge of this number; refused RANGE outside 1 to 65,536.
-    pub fn new(number: u64) -> Result<Charge, Refusal>
-        ensures { Answers (range_refusal most_charges number) (λ c. c.number ≡ number) result }
+impl Number<ChargeKind, MOST_CHARGES> {
+    /// How many charges come before this one.
+    pub fn place(self) -> usize
+        ensures value { result ≡ self.number - 1 }
+        ensures bound { result < most_charges }
     {
-        let number = in_range(number, MOST_CHARGES)?;
-        Ok(Charge { number })
-    }
-
-    pub fn get(self) -> u32
-        ensures value { result ≡ self.number }
-        ensures range { InRange most_charges result }
-    {
-        self.number
+        self.get() as usize - 1
     }
 
     /// Charge 1, if there are any among `count`.
@@ -36,7 +28,7 @@ impl Charge {
         if count == 0 {
             return None;
         }
-        Some(Charge { number: 1 })
+        Some(Number::of(1))
     }
 
     /// The charge after this one, if it is among `count` charges and there can be one.
@@ -46,8 +38,40 @@ impl Charge {
         if self.number >= count || self.number >= MOST_CHARGES {
             return None;
         }
-        Some(Charge {
-            number: self.number + 1,
-        })
+        Some(Number::of(self.number + 1))
+    }
+
+    /// The charges among `count` of them, from the first on: as many as there can be.
+    pub fn up_to(count: u32) -> Charges
+        ensures { (result.passed ≡ 0) × (result.count ≡ min count most_charges) }
+    {
+        Charges {
+            passed: 0,
+            count: count.min(MOST_CHARGES),
+        }
+    }
+}
+
+/// Goes over the charges of a table, from the first on.
+#[derive(Clone, Copy, Debug)]
+pub struct Charges {
+    passed: u32,
+    count: u32,
+    ghost few: { count ≤ most_charges },
+}
+
+impl Iterator for Charges {
+    type Item = Charge;
+
+    ghost next_gives = { YieldsFirstBy (λ charge. charge.number) (λ charges. range_with_len (charges.passed + 1) (charges.count - charges.passed)) };
+
+    ghost remaining = { item_count (λ charges. range_with_len (charges.passed + 1) (charges.count - charges.passed)) };
+
+    fn next(&mut self) -> Option<Charge> {
+        if self.passed >= self.count {
+            return None;
+        }
+        self.passed += 1;
+        Some(Number::of(self.passed))
     }
 }

@@ -1,41 +1,23 @@
 // Marks.
 ghost use Rattle.std.specs.Prelude.{◌≡◌, ◌+◌, ◌<◌, ◌≤◌, MatchOption};
-ghost use Rattle.marks.specs.Numbers.{most_marks, InRange, bit_of};
-ghost use Rattle.marks.specs.Refusals.{Answers, range_refusal};
+ghost use Rattle.marks.specs.Numbers.{most_marks, bit_of};
 
 use crate::numbers::width::Width;
-use crate::numbers::{MOST_MARKS, in_range};
-use crate::refusal::Refusal;
+use crate::numbers::{MOST_MARKS, Number};
+
+/// The kind of marks.
+pub enum MarkKind {}
 
 /// A mark: one of the events that a control can log at a charge.
-#[derive(Clone, Copy, PartialEq, Eq, Debug)]
-pub struct Mark {
-    number: u32,
-    ghost range: { InRange most_marks number },
-}
+pub type Mark = Number<MarkKind, MOST_MARKS>;
 
-impl Mark {
-    /// The mark of this number; refused RANGE outside 1 to 32.
-    pub fn new(number: u64) -> Result<Mark, Refusal>
-        ensures { Answers (range_refusal most_marks number) (λ m. m.number ≡ number) result }
-    {
-        let number = in_range(number, MOST_MARKS)?;
-        Ok(Mark { number })
-    }
-
-    pub fn get(self) -> u32
-        ensures value { result ≡ self.number }
-        ensures range { InRange most_marks result }
-    {
-        self.number
-    }
-
+impl Number<MarkKind, MOST_MARKS> {
     // The mark at a bit of a set, which counts from 0.
     pub(crate) fn at_bit(bit: u32) -> Mark
         requires { bit < most_marks }
         ensures { result.number ≡ bit + 1 }
     {
-        Mark { number: bit + 1 }
+        Number::of(bit + 1)
     }
 
     /// The bit of the mark in a set, which counts from 0.
@@ -50,7 +32,7 @@ impl Mark {
     pub fn first() -> Mark
         ensures { result.number ≡ 1 }
     {
-        Mark { number: 1 }
+        Number::of(1)
     }
 
     /// The mark after this one, if it is up to `width`.
@@ -60,8 +42,6 @@ impl Mark {
         if self.number >= width.get() {
             return None;
         }
-        Some(Mark {
-            number: self.number + 1,
-        })
+        Some(Number::of(self.number + 1))
     }
 }

@@ -1,93 +1,81 @@
 // A list of marks to choose.
-ghost use Rattle.std.specs.Prelude.{◌≡◌, ◌≤◌, not, length, None};
+ghost use Rattle.std.specs.Prelude.{◌≡◌, not, length, slice_index};
 ghost use Rattle.std.specs.List.{range_with_len};
-ghost use Rattle.marks.specs.Numbers.{most_marks, in_range};
+ghost use Rattle.marks.specs.Numbers.{most_marks, InRange, in_range};
 ghost use Rattle.marks.specs.Places.{first_place};
 ghost use Rattle.marks.specs.Refusals.{Answers};
 ghost use Rattle.tables.specs.Chosen.{chosen};
-ghost use Rattle.tables.specs.Layers.{occurs, repeats, choice_refusal, chosen_from};
+ghost use Rattle.tables.specs.Layers.{repeats, choice_refusal, chosen_from};
 
-use marks::{Mark, MarkSet, Reason, Refusal, Width};
+use marks::{MARKS, Mark, MarkSet, Reason, Refusal, Width};
+use std::array;
 
 /// Different marks in an order: the first `width` of the array.
-#[derive(Clone, Copy)]
+// An array beside its length, since a choice is `Copy`, and what the library has for both in one, `ArrayVec`, is not.
+#[derive(Clone, Copy, PartialEq, Eq, Debug)]
 pub struct Choice {
-    marks: [Mark; 32],
+    marks: [Mark; MARKS],
     width: Width,
     ghost whole: { length marks ≡ most_marks },
+}
+
+// Whether a number is no mark.
+fn is_outside(number: u64) -> bool
+    ensures { result ≡ not (in_range most_marks number) }
+{
+    Mark::new(number).is_err()
 }
 
 // The place of the first number that is no mark.
 fn first_outside(numbers: &[u64]) -> Option<u64>
     ensures { result ≡ first_place (λ mark. not (in_range most_marks mark)) numbers.now }
 {
-    for index in 0..numbers.len() {
-        if Mark::new(numbers[index]).is_err() {
-            return Some(index as u64 + 1);
-        }
-    }
-    None
-}
-
-// Whether a number stands in a list.
-fn stands_in(number: u64, numbers: &[u64]) -> bool
-    ensures { result ≡ occurs number numbers.now }
-{
-    for other in numbers {
-        if number == *other {
-            return true;
-        }
-    }
-    false
+    numbers
+        .iter()
+        .position(|number| is_outside(*number))
+        .map(|index| index as u64 + 1)
 }
 
 // The place of the first number that stands before it too.
 fn first_repeat(numbers: &[u64]) -> Option<u64>
     ensures { result ≡ first_place (repeats numbers.now) (range_with_len 0 (length numbers.now)) }
 {
-    for index in 0..numbers.len() {
-        if stands_in(numbers[index], &numbers[0..index]) {
-            return Some(index as u64 + 1);
-        }
-    }
-    None
+    numbers
+        .iter()
+        .enumerate()
+        .position(|(index, number)| numbers[..index].contains(number))
+        .map(|index| index as u64 + 1)
 }
 
-// The marks of these numbers, in the front of an array.
-fn gathered(numbers: &[u64]) -> [Mark; 32]
-    requires { (length numbers.now ≤ most_marks) × (first_place (λ mark. not (in_range most_marks mark)) numbers.now ≡ None) }
-    ensures { chosen result (length numbers.now) ≡ numbers.now }
+// The number at an index as a mark; mark 1 if it is none, or there is no number.
+fn mark_at(numbers: &[u64], index: usize) -> Mark
+    ensures { InRange most_marks (slice_index numbers.now index) → result.number ≡ slice_index numbers.now index }
 {
-    let mut marks = [Mark::first(); 32];
-    for index in 0..numbers.len() {
-        let Ok(mark) = Mark::new(numbers[index]) else {
-            unreachable()
-        };
-        marks[index] = mark;
-    }
-    marks
+    numbers
+        .get(index)
+        .and_then(|number| Mark::new(*number).ok())
+        .unwrap_or(Mark::first())
 }
 
 impl Choice {
     /// The choice of the marks of these numbers, in their order.
     /// Refused: RANGE at the first that is outside 1 to 32; BAD CHOICE at the first that repeats an earlier one, or at 1 for an empty list.
+    #[tactic(auto, unfolding(crate::specs::Layers::choice_refusal))]
     pub fn new(numbers: &[u64]) -> Result<Choice, Refusal>
         ensures { Answers (choice_refusal numbers.now) (λ c. chosen c.marks c.width.number ≡ numbers.now) result }
     {
         if let Some(place) = first_outside(numbers) {
             return Err(Refusal::at(Reason::Range, place));
         }
-        if numbers.is_empty() {
-            return Err(Refusal::at(Reason::BadChoice, 1));
-        }
         if let Some(place) = first_repeat(numbers) {
             return Err(Refusal::at(Reason::BadChoice, place));
         }
+        // Only an empty list has no width here: without repeats it has at most 32 marks.
         let Ok(width) = Width::new(numbers.len() as u64) else {
-            unreachable()
+            return Err(Refusal::at(Reason::BadChoice, 1));
         };
         Ok(Choice {
-            marks: gathered(numbers),
+            marks: array::from_fn(|index| mark_at(numbers, index)),
             width,
         })
     }
@@ -103,12 +91,6 @@ impl Choice {
     pub(crate) fn of(self, row: MarkSet) -> MarkSet
         ensures { result.bits ≡ chosen_from (chosen self.marks self.width.number) row.bits }
     {
-        let mut chosen = MarkSet::empty();
-        let mut next = Some(Mark::first());
-        while let Some(mark) = next {
-            chosen = chosen.with_if(mark, row.holds(self.marks[mark.bit() as usize]));
-            next = mark.next(self.width);
-        }
-        chosen
+        MarkSet::up_to(self.width).filter(|mark| row.holds(self.marks[mark.bit() as usize]))
     }
 }

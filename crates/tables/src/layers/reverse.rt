@@ -1,13 +1,15 @@
 // The layer that reverses marks.
+#![tactic(auto, unfolding(crate::specs::Layers::reversed))]
+
 ghost use Rattle.std.specs.Prelude.{◌≡◌};
 ghost use Rattle.tables.specs.Layers.{reversed};
 ghost use Rattle.tables.specs.Laid.{reversed_proper};
 
-use crate::table::{Rows, Table};
+use crate::table::Table;
 use marks::{Charge, MarkSet, Width};
 
 /// A table in which some marks are in a row exactly where they were not below. Marks above the width stay away.
-#[derive(Drop)]
+#[derive(Clone, Copy, Drop)]
 pub struct Reverse<T> {
     below: T,
     flipped: MarkSet,
@@ -22,8 +24,8 @@ impl<T: Table> Reverse<T> {
     }
 }
 
-impl<T: Table> Rows for Reverse<T> {
-    ghost meaning = { λ layer. reversed layer.flipped.bits (T.Rows.meaning layer.below) };
+impl<T: Table> Table for Reverse<T> {
+    ghost meaning = { λ layer. reversed layer.flipped.bits (T.Table.meaning layer.below) };
 
     fn width(&self) -> Width {
         self.below.width()
@@ -42,8 +44,6 @@ impl<T: Table> Rows for Reverse<T> {
             .intersection(MarkSet::up_to(self.below.width()));
         self.below.row(charge).symmetric_difference(flipped)
     }
-}
 
-impl<T: Table> Table for Reverse<T> {
-    ghost proper = { λ s. reversed_proper s.flipped.bits (T.Rows.meaning s.below) (T.Table.proper s.below) };
+    ghost proper = { λ s. reversed_proper s.flipped.bits (T.Table.meaning s.below) (T.Table.proper s.below) };
 }

@@ -1,15 +1,17 @@
 // The layer that shows some marks only, in an order of its own.
+#![tactic(auto, using(crate::specs::Choosing::chosen_length, crate::specs::Choosing::selected_row), unfolding(crate::specs::Layers::selected))]
+
 ghost use Rattle.std.specs.Prelude.{◌≡◌};
 ghost use Rattle.tables.specs.Chosen.{chosen};
 ghost use Rattle.tables.specs.Layers.{selected};
 ghost use Rattle.tables.specs.Choosing.{chosen_wide, selected_proper};
 
 use crate::layers::choice::Choice;
-use crate::table::{Rows, Table};
+use crate::table::Table;
 use marks::{Charge, MarkSet, Width};
 
 /// A table of the marks of a choice: its mark j is the j-th of them below.
-#[derive(Drop)]
+#[derive(Clone, Copy, Drop)]
 pub struct Selection<T> {
     below: T,
     choice: Choice,
@@ -24,8 +26,8 @@ impl<T: Table> Selection<T> {
     }
 }
 
-impl<T: Table> Rows for Selection<T> {
-    ghost meaning = { λ layer. selected (chosen layer.choice.marks layer.choice.width.number) (T.Rows.meaning layer.below) };
+impl<T: Table> Table for Selection<T> {
+    ghost meaning = { λ layer. selected (chosen layer.choice.marks layer.choice.width.number) (T.Table.meaning layer.below) };
 
     fn width(&self) -> Width {
         self.choice.width()
@@ -38,11 +40,9 @@ impl<T: Table> Rows for Selection<T> {
     fn row(&self, charge: Charge) -> MarkSet {
         self.choice.of(self.below.row(charge))
     }
-}
 
-impl<T: Table> Table for Selection<T> {
     ghost proper = { λ s.
         let marks = s.choice.marks in
         let n = s.choice.width.number in
-        selected_proper (chosen marks n) (T.Rows.meaning s.below) (chosen_wide marks n s.choice.whole s.choice.width.range) (T.Table.proper s.below) };
+        selected_proper (chosen marks n) (T.Table.meaning s.below) (chosen_wide marks n s.choice.whole s.choice.width.range) (T.Table.proper s.below) };
 }

@@ -1,13 +1,15 @@
 // The layer that shows some charges only.
+#![tactic(auto, unfolding(crate::specs::Layers::windowed))]
+
 ghost use Rattle.std.specs.Prelude.{◌≡◌};
 ghost use Rattle.tables.specs.Layers.{windowed};
 ghost use Rattle.tables.specs.Laid.{windowed_proper};
 
-use crate::table::{Rows, Table};
+use crate::table::Table;
 use marks::{Charge, MarkSet, Width};
 
 /// A table of so many charges from a first one on, or of as many as there are.
-#[derive(Drop)]
+#[derive(Clone, Copy, Drop)]
 pub struct Window<T> {
     below: T,
     first: Charge,
@@ -27,15 +29,15 @@ impl<T: Table> Window<T> {
     }
 }
 
-impl<T: Table> Rows for Window<T> {
-    ghost meaning = { λ layer. windowed layer.first.number layer.count (T.Rows.meaning layer.below) };
+impl<T: Table> Table for Window<T> {
+    ghost meaning = { λ layer. windowed layer.first.number layer.count (T.Table.meaning layer.below) };
 
     fn width(&self) -> Width {
         self.below.width()
     }
 
     fn count(&self) -> u32 {
-        let hidden = self.first.get() - 1;
+        let hidden = self.first.place() as u32;
         self.below.count().saturating_sub(hidden).min(self.count)
     }
 
@@ -43,14 +45,12 @@ impl<T: Table> Rows for Window<T> {
         if charge.get() > self.count {
             return MarkSet::empty();
         }
-        let hidden = self.first.get() - 1;
-        match Charge::new(u64::from(hidden) + u64::from(charge.get())) {
-            Ok(below) => self.below.row(below),
-            Err(_) => MarkSet::empty(),
-        }
+        let hidden = self.first.place() as u32;
+        Charge::new(u64::from(hidden) + u64::from(charge.get())).map_or(
+            MarkSet::empty(),
+            |below| self.below.row(below),
+        )
     }
-}
 
-impl<T: Table> Table for Window<T> {
-    ghost proper = { λ s. windowed_proper s.first.number s.count (T.Rows.meaning s.below) (T.Table.proper s.below) };
+    ghost proper = { λ s. windowed_proper s.first.number s.count (T.Table.meaning s.below) (T.Table.proper s.below) };
 }

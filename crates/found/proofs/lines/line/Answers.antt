@@ -1,16 +1,13 @@
-use Rattle.std.proofs.Common.{ap, ◌∙◌, subst, arith}
-use Rattle.found.specs.Lines.{HandedOut, line_text}
-use Rattle.found.proofs.Writing.{written_front}
-use Rattle.found.proofs.Marked.{line_short}
+use Rattle.std.proofs.Common.{◌≡◌, ◌++◌, codes, decimal, arith}
+use Rattle.found.proofs.Marked.{at_start, next_mark}
 use Rattle.found.proofs.lines.line.Goals as goal
 
-pub returns : goal.returns
-returns c =
-    let text = ap (line_text c.args.set.bits) c.from.ensures in
-    record {
-      answer = subst (λ t. HandedOut t c.args.memory.now c.hand_out.new.memory c.hand_out.result) (written_front c.in-Some.ensures ∙ text) c.hand_out.ensures.answer;
-      kept = c.hand_out.ensures.kept;
-    }
+pub loop-mark-init : goal.loop-mark-init
+loop-mark-init c =
+    let set : c.into_iter-mark-iterator.result.rest.bits ≡ c.args.set.bits = cc in
+    rw (set, c.new-text.ensures) (at_start c.args.set.bits)
 
-pub unreachable-requires : goal.unreachable-requires
-unreachable-requires c = omega (arith, c.in_default.ensures, line_short c.args.set.bits c.from.result (omega (arith, c.from.ensures)))
+pub loop-mark-preserved : goal.loop-mark-preserved
+loop-mark-preserved c =
+    let written : c.push_str.new.self.bytes ≡ (c.loop-mark.text.bytes ++ decimal c.in-Some.mark.number) ++ codes " " = cc in
+    rw written (next_mark (omega arith) c.loop-mark.invariant c.in-Some.ensures.steps)

@@ -1,24 +1,17 @@
-use Rattle.std.proofs.Common.{◌≡◌, ◌+◌, ◌-◌, refl, subst, arith}
-use Rattle.std.proofs.lemmas.Bool.{both_ways}
-use Rattle.marks.specs.Orders.{After}
-use Rattle.marks.proofs.Neighbours.{before_from, rising_more}
+use Rattle.std.proofs.Common.{rules}
+use Rattle.std.proofs.lemmas.Iterator.{IsFirst-from_position}
+use borrow.Author.Tests.{tests}
+use Rattle.marks.proofs.Neighbours.{pairs_yielded, unordered_some, unordered_none}
 use Rattle.marks.proofs.orders.first_unordered.Goals as goal
 
-pub loop-index-init : goal.loop-index-init
-loop-index-init g c k some under = absurd (omega arith)
+pub returns-in_err-left : goal.returns-in_err-left
+returns-in_err-left g c =
+    let first = IsFirst-from_position c.position.new.self _ _ (λ p. g.E.StrictOrder.before p.0 p.1 → ⊥) (λ p. g.E.StrictOrder.before p.0 p.1) c.position.ensures.ran
+    (pairs_yielded g.E.StrictOrder.before c.args.elements.now {s = c.zip.result} (cc) (cc) (cc)) (λ x q k. search (rules, tests)) (λ x q k. search (rules, tests)) in
+    rw c.from_residual.ensures (unordered_none g.E.StrictOrder.before c.args.elements.now (rw c.in_err-left.was at first))
 
-pub loop-index-preserved : goal.loop-index-preserved
-loop-index-preserved g c =
-    rising_more g.E.StrictOrder.before c.args.elements.now c.loop-index.index c.index-elements-index.result c.index-elements-index-in-loop-index.result
-    c.loop-index-test.true c.index-elements-index.is c.index-elements-index-in-loop-index.is c.loop-index.invariant (c.if-not-is_before.ensures.0 refl)
-
-pub returns-then-not-is_before : goal.returns-then-not-is_before
-returns-then-not-is_before g c =
-    let here : c.loop-index.index + 1 - 1 ≡ c.loop-index.index = omega arith in (
-      omega arith,
-      omega arith,
-      λ k some under. c.loop-index.invariant k some (omega arith),
-      λ up. both_ways c.is_before.result c.if-not-is_before.true
-          (c.is_before.ensures.1 (before_from g.E.StrictOrder.before c.args.elements.now c.loop-index.index c.index-elements-index.result c.index-elements-index-in-loop-index.result
-          c.loop-index-test.true c.index-elements-index.is c.index-elements-index-in-loop-index.is (subst (After g.E.StrictOrder.before c.args.elements.now) here up))),
-    )
+pub returns : goal.returns
+returns g c =
+    let first = IsFirst-from_position c.position.new.self _ _ (λ p. g.E.StrictOrder.before p.0 p.1 → ⊥) (λ p. g.E.StrictOrder.before p.0 p.1) c.position.ensures.ran
+    (pairs_yielded g.E.StrictOrder.before c.args.elements.now {s = c.zip.result} (cc) (cc) (cc)) (λ x q k. search (rules, tests)) (λ x q k. search (rules, tests)) in
+    unordered_some g.E.StrictOrder.before c.args.elements.now c.in_ok-left.left (rw c.in_ok-left.was at first)

@@ -3,22 +3,22 @@ use Rattle.marks.specs.Sets.{no_marks}
 use Rattle.finder.proofs.Turns.{start_ready, aside_ready, turn_at_root, turn_from}
 use Rattle.finder.proofs.finder.Finder.turn.Goals as goal
 
-pub returns-then-self-eq0 : goal.returns-then-self-eq0
-returns-then-self-eq0 g c =
+pub returns-in-Some : goal.returns-in-Some
+returns-in-Some g c =
     let f = c.args.self.now in
-    let q = query_of g.T.Rows.meaning g.W.Allows.allowed f in
+    let q = query_of g.T.Table.meaning g.W.Limit.allowed f in
     record {
-      ready = start_ready q no_marks no_marks no_marks c.start_at_root.result c.start_at_root.ensures.node;
-      turned = λ k s e. turn_at_root q k s.within f.last f.turns.bits s.last_is s.turns_are c.if-self-eq0.true c.args.opened.now c.start_at_root.new.opened e
-          c.start_at_root.ensures.counted c.start_at_root.result c.start_at_root.ensures.node;
+      ready = aside_ready q c.in-Some.last.found.set.bits c.in-Some.last.turns.bits c.args.opened.now c.turn_aside.result c.turn_aside.new.opened c.turn_aside.ensures;
+      turned = λ k s e. turn_from q k s.within f.last s.last_is (g.met.T.Table.proper f.query.table) c.in-Some.last c.in-Some.is
+          c.args.opened.now c.turn_aside.new.opened e c.turn_aside.result c.turn_aside.ensures;
     }
 
-pub returns-else-self-eq0 : goal.returns-else-self-eq0
-returns-else-self-eq0 g c =
+pub returns-in-None : goal.returns-in-None
+returns-in-None g c =
     let f = c.args.self.now in
-    let q = query_of g.T.Rows.meaning g.W.Allows.allowed f in
+    let q = query_of g.T.Table.meaning g.W.Limit.allowed f in
     record {
-      ready = aside_ready q f.last.set.bits f.turns.bits c.args.opened.now c.turn_aside.result c.turn_aside.new.opened c.turn_aside.ensures;
-      turned = λ k s e. turn_from q k s.within f.last f.turns.bits s.last_is s.turns_are (g.met.T.Table.proper f.table) c.if-self-eq0.false
-          c.args.opened.now c.turn_aside.new.opened e c.turn_aside.result c.turn_aside.ensures;
+      ready = start_ready q no_marks no_marks no_marks c.start_at_root.result c.start_at_root.ensures.node;
+      turned = λ k s e. turn_at_root q k s.within f.last s.last_is c.in-None.is c.args.opened.now c.start_at_root.new.opened e
+          c.start_at_root.ensures.counted c.start_at_root.result c.start_at_root.ensures.node;
     }

@@ -1,25 +1,24 @@
-use Rattle.std.proofs.Common.{subst}
+use Rattle.std.proofs.Common.{ap, ◌∙◌}
 use Rattle.closed.proofs.Closing.{closure_laws}
-use Rattle.finder.proofs.Tallying.{Tallied, tallied_none, tallied_more, tallied_all}
+use Rattle.tables.proofs.Passing.{passing_start, passing_more}
+use Rattle.finder.specs.Tallies.{tally_of, noted}
+use Rattle.finder.proofs.Tallying.{tally_none, tally_more}
 use Rattle.finder.proofs.tally.Tally.of.Goals as goal
 
-pub loop-next-init : goal.loop-next-init
-loop-next-init g c =
-    tallied_none (g.T.Rows.meaning c.args.table.now) c.args.set.bits c.count-count.result c.first-next.result
-    c.width.result.number c.unheld-none.result c.count-count.ensures c.first-next.ensures c.width.ensures c.unheld-none.ensures
+pub loop-charge-init : goal.loop-charge-init
+loop-charge-init g c =
+    let m = g.T.Table.meaning c.args.table.now in
+    passing_start (λ m. tally_of m c.args.set.bits) m (g.met.T.Table.proper c.args.table.now) c.count.result c.count.ensures
+    c.into_iter-charge-iterator.result (cc, cc) _
+    (tally_none m c.args.set.bits c.width.result.number c.unheld-none.result c.width.ensures c.unheld-none.ensures)
 
-pub loop-next-preserved : goal.loop-next-preserved
-loop-next-preserved g c =
-    let m = g.T.Rows.meaning c.args.table.now in
+pub loop-charge-preserved : goal.loop-charge-preserved
+loop-charge-preserved g c =
+    let m = g.T.Table.meaning c.args.table.now in
     let s = c.args.set.bits in
-    let before = subst (λ n. Tallied m s c.count-count.result n c.loop-next.tally) c.in-Some.is c.loop-next.invariant in
-    tallied_more m (g.met.T.Table.proper c.args.table.now) s c.count-count.result c.in-Some.charge c.next-next.result
-    c.loop-next.tally c.note.new.self c.row.result.bits before c.next-next.ensures c.row.ensures c.note.ensures
+    passing_more (λ m. tally_of m s) m (noted s) (tally_more m s (g.met.T.Table.proper c.args.table.now).few)
+    c.loop-charge.yielded c.loop-charge.charge-iterator c.next.new.self c.in-Some.charge c.in-Some.ensures.steps c.loop-charge.tally c.note.new.self
+    c.loop-charge.invariant (c.note.ensures ∙ ap (λ row. noted s row c.loop-charge.tally) c.row.ensures)
 
-pub returns : goal.returns
-returns g c =
-    let m = g.T.Rows.meaning c.args.table.now in
-    record {
-      value = tallied_all m c.args.set.bits c.count-count.result c.loop-next.next c.loop-next.tally c.loop-next.invariant c.in_default.is;
-      laws = closure_laws m;
-    }
+pub returns-clause-laws : goal.returns-clause-laws
+returns-clause-laws g c = closure_laws (g.T.Table.meaning c.args.table.now)

@@ -1,10 +1,6 @@
-use Rattle.std.proofs.Common.{◌-◌}
-use Rattle.tables.proofs.Passing.{passed}
-use Rattle.finder.proofs.Tallying.{Tallied}
+use Rattle.tables.proofs.Passing.{Passing}
+use Rattle.finder.specs.Tallies.{tally_of}
 use Rattle.finder.proofs.tally.Tally.of.Given as goal
 
-abbrev pub invariant-loop-next : goal.invariant-loop-next
-invariant-loop-next g l = Tallied (g.T.Rows.meaning l.table) l.set.bits l.count l.next l.tally
-
-abbrev pub decreases-loop-next : goal.decreases-loop-next
-decreases-loop-next g l = l.count - passed l.count l.next
+abbrev pub invariant-loop-charge : goal.invariant-loop-charge
+invariant-loop-charge g l = Passing (λ m. tally_of m l.set.bits) (g.T.Table.meaning l.table) l.yielded l.charge-iterator l.tally

@@ -1,17 +1,17 @@
-use Rattle.std.proofs.Common.{◌≡◌, ℕ, List, ap, ◌∙◌, arith, rules}
-use Rattle.found.specs.declared.record.Record.{Record}
-use Rattle.found.specs.Records.{record_bytes, record_at}
+use Rattle.std.proofs.Common.{◌≡◌, ◌∙◌, ap, arith, w32}
+use Rattle.std.specs.Int.{to_le_bytes}
+use Rattle.found.specs.Records.{record_bytes, record_at, four_bytes, eight_bytes}
 use Rattle.found.proofs.Laying.{record_back}
 use Rattle.found.proofs.record.Record.to_bytes.Goals as goal
 
--- bytes that are the record's are read back as the record
-back_from : (bytes : List ℕ) (r : Record) → bytes ≡ record_bytes r → record_at (record_bytes r) 0 ≡ r → record_at bytes 0 ≡ r
-back_from bytes r e b = ap (λ l. record_at l 0) e ∙ b
-
-pub returns : goal.returns
+pub returns-clause-value : goal.returns-clause-value
 unfolding record_bytes
-returns c =
-    record {
-      value = search rules;
-      back = back_from _ c.args.self (search rules) (record_back c.args.self (omega arith) (omega arith) (omega arith) (omega arith));
-    }
+returns-clause-value c =
+    let set : c.copy_from_slice.new.self ≡ four_bytes c.args.self.set.bits = c.copy_from_slice.ensures.after ∙ c.to_le_bytes.ensures ∙ ap (to_le_bytes w32) c.bits.ensures in
+    let support : c.copy_from_slice-2.new.self ≡ four_bytes c.args.self.support = c.copy_from_slice-2.ensures.after ∙ c.to_le_bytes-2.ensures in
+    let ordinal : c.copy_from_slice-3.new.self ≡ eight_bytes c.args.self.ordinal = c.copy_from_slice-3.ensures.after ∙ c.to_le_bytes-3.ensures in
+    let opened : c.copy_from_slice-4.new.self ≡ eight_bytes c.args.self.opened = c.copy_from_slice-4.ensures.after ∙ c.to_le_bytes-4.ensures in
+    rw (set, support, ordinal, opened)
+
+pub returns-clause-back : goal.returns-clause-back
+returns-clause-back c = ap (λ l. record_at l 0) (returns-clause-value c) ∙ record_back c.args.self (omega arith) (omega arith) (omega arith) (omega arith)

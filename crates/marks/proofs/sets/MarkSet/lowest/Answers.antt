@@ -2,11 +2,8 @@ use Rattle.std.proofs.Common.{◌≡◌, subst, arith}
 use lib.Count.{count_trailing_zeros}
 use Rattle.marks.specs.Numbers.{most_marks, bit_of}
 use Rattle.marks.specs.Sets.{Lowest}
-use Rattle.marks.specs.Sizes.{trailing_lowest, trailing_below}
+use Rattle.marks.specs.Sizes.{trailing_lowest}
 use Rattle.marks.proofs.sets.MarkSet.lowest.Goals as goal
-
-pub at_bit-requires : goal.at_bit-requires
-at_bit-requires c = trailing_below most_marks c.args.self.bits (omega arith) (omega arith)
 
 pub returns : goal.returns
 returns c =

@@ -5,8 +5,8 @@ use Rattle.tables.proofs.columns.turning.put.Given as goal
 
 abbrev pub invariant-loop-mark : goal.invariant-loop-mark
 invariant-loop-mark l =
-    PartOf l.rest.bits l.initial.rest.bits
-    × ((i : ℕ) → i < length l.initial.words → get_or l.words i 0 ≡ put_word l.per l.place (minus l.initial.rest.bits l.rest.bits) i (get_or l.initial.words i 0))
-
-abbrev pub decreases-loop-mark : goal.decreases-loop-mark
-decreases-loop-mark l = l.rest.bits
+    let rest = l.mark-iterator.rest.bits in
+    record {
+      part : PartOf rest l.fn.row.bits;
+      so_far : (i : ℕ) → i < length l.initial.words → get_or l.words i 0 ≡ put_word l.per l.place (minus l.fn.row.bits rest) i (get_or l.initial.words i 0);
+    }

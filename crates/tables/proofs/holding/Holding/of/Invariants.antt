@@ -1,9 +1,7 @@
-use Rattle.std.proofs.Common.{◌-◌}
-use Rattle.tables.proofs.Passing.{passed, Passed}
+use Rattle.tables.specs.Holding.{holding_of}
+use Rattle.tables.proofs.Passing.{Passing}
 use Rattle.tables.proofs.holding.Holding.of.Given as goal
 
-abbrev pub invariant-loop-next : goal.invariant-loop-next
-invariant-loop-next g l = Passed (g.T.Rows.meaning l.table) l.set.bits l.count l.next l.holding.support l.holding.closure.bits
-
-abbrev pub decreases-loop-next : goal.decreases-loop-next
-decreases-loop-next g l = l.count - passed l.count l.next
+abbrev pub invariant-loop-charge : goal.invariant-loop-charge
+invariant-loop-charge g l =
+    Passing (λ m. holding_of m l.set.bits) (g.T.Table.meaning l.table) l.yielded l.charge-iterator l.holding

@@ -1,18 +1,16 @@
-use Rattle.std.proofs.Common.{◌≡◌, length, sym, ◌∙◌, arith, rules, below_more}
-use Rattle.marks.proofs.Places.{first_number_some, first_number_none}
-use Rattle.tables.specs.Layers.{repeats}
+use Rattle.std.proofs.Common.{ℕ, Bool, eqb, take, sym, rules}
+use Rattle.std.specs.List.{list_any, enumerate_from}
+use Rattle.std.proofs.lemmas.Iterator.{YieldsList-from_slice}
+use Rattle.std.proofs.lemmas.Iterator.Consumers.{YieldsList-from_enumerate}
+use Rattle.std.proofs.lemmas.Iterator.Search.{position_from_yields_List}
+use borrow.Author.Tests.{tests}
+use Rattle.marks.proofs.Places.{place_of}
+use Rattle.tables.proofs.Occurring.{repeat_place}
 use Rattle.tables.proofs.layers.choice.first_repeat.Goals as goal
 
-pub loop-index-preserved : goal.loop-index-preserved
-loop-index-preserved c =
-    let e : c.stands_in.result ≡ repeats c.args.numbers.now c.loop-index.index = search rules in
-    below_more _ _ c.loop-index.invariant (sym e ∙ c.if-stands_in.false)
-
-pub returns-then-stands_in : goal.returns-then-stands_in
-returns-then-stands_in c =
-    let e : c.stands_in.result ≡ repeats c.args.numbers.now c.loop-index.index = search rules in
-    sym (first_number_some (repeats c.args.numbers.now) (length c.args.numbers.now) c.loop-index.index (omega arith)
-    (sym e ∙ c.if-stands_in.true) c.loop-index.invariant)
-
 pub returns : goal.returns
-returns c = sym (first_number_none (repeats c.args.numbers.now) (length c.args.numbers.now) (λ k h. c.loop-index.invariant k (omega arith)))
+returns c =
+    let numbers = c.args.numbers.now in
+    let again : ℕ × ℕ → Bool = λ p. list_any (λ y. eqb y p.1) (take p.0 numbers) in
+    let at = position_from_yields_List again _ _ c.position.result c.position.ensures.ran (YieldsList-from_enumerate (YieldsList-from_slice numbers (cc)) (cc)) (λ x b q k. search (rules, tests)) in
+    rw (sym (repeat_place numbers), place_of again (enumerate_from 0 numbers) c.position.result (sym at)) (search (rules, tests))

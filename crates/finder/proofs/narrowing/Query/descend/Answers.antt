@@ -1,0 +1,51 @@
+use Rattle.std.proofs.Common.{◌<◌, sym, subst}
+use Rattle.marks.specs.Numbers.{bit_of}
+use Rattle.marks.specs.Sets.{size_of}
+use Rattle.closed.specs.Walks.{free_marks}
+use Rattle.finder.specs.declared.narrowing.Node.{Node}
+use Rattle.finder.specs.Asked.{asked}
+use Rattle.finder.proofs.Descending.{ready_free, ready_done, child_is, child_there, child_falls, descending_more, descending_done}
+use Rattle.finder.proofs.narrowing.Query.descend.Goals as goal
+
+pub unreachable-requires : goal.unreachable-requires
+unreachable-requires g c =
+    let q = asked g.T.Table.meaning g.W.Limit.allowed c.args.self.now in
+    let small = (g.met.T.Table.proper c.args.self.now.table).wide.1 in
+    let node = c.loop-mark.node in
+    let ready = c.loop-mark.invariant.ready in
+    let b = bit_of c.in-Some.mark.number in
+    let free = ready_free q small node ready _ _ _ c.free.ensures c.up_to-all.ensures c.width.ensures b c.in-Some.ensures in
+    child_there q small node ready b free c.«with».result.bits c.«with».ensures c.open.result c.open.ensures.node c.in_default-open.is
+
+pub loop-mark-smaller : goal.loop-mark-smaller
+loop-mark-smaller g c =
+    let q = asked g.T.Table.meaning g.W.Limit.allowed c.args.self.now in
+    let small = (g.met.T.Table.proper c.args.self.now.table).wide.1 in
+    let node = c.loop-mark.node in
+    let ready = c.loop-mark.invariant.ready in
+    let b = bit_of c.in-Some.mark.number in
+    let free = ready_free q small node ready _ _ _ c.free.ensures c.up_to-all.ensures c.width.ensures b c.in-Some.ensures in
+    subst (λ (x : Node). size_of (free_marks q.table.width x.ins.bits x.outs.bits) < size_of (free_marks q.table.width node.ins.bits node.outs.bits))
+    (sym (child_is q small node ready b free c.«with».result.bits c.«with».ensures c.open.result c.open.ensures.node c.in-Some-open.child c.in-Some-open.is))
+    (child_falls q small node ready b free)
+
+pub loop-mark-preserved : goal.loop-mark-preserved
+loop-mark-preserved g c =
+    let q = asked g.T.Table.meaning g.W.Limit.allowed c.args.self.now in
+    let small = (g.met.T.Table.proper c.args.self.now.table).wide.1 in
+    let node = c.loop-mark.node in
+    let ready = c.loop-mark.invariant.ready in
+    let b = bit_of c.in-Some.mark.number in
+    let free = ready_free q small node ready _ _ _ c.free.ensures c.up_to-all.ensures c.width.ensures b c.in-Some.ensures in
+    descending_more q small c.args.start c.args.opened.now node c.loop-mark.turns.bits c.loop-mark.opened c.loop-mark.invariant b free
+    c.in-Some-open.child c.with-turns.result.bits c.open.new.opened
+    (child_is q small node ready b free c.«with».result.bits c.«with».ensures c.open.result c.open.ensures.node c.in-Some-open.child c.in-Some-open.is)
+    c.with-turns.ensures c.open.ensures.counted
+
+pub returns : goal.returns
+returns g c =
+    let q = asked g.T.Table.meaning g.W.Limit.allowed c.args.self.now in
+    let small = (g.met.T.Table.proper c.args.self.now.table).wide.1 in
+    let node = c.loop-mark.node in
+    descending_done q small c.args.start c.args.opened.now node c.loop-mark.turns.bits c.loop-mark.opened c.loop-mark.invariant
+    (ready_done q small node c.loop-mark.invariant.ready _ _ _ c.free.ensures c.up_to-all.ensures c.width.ensures c.in_default.ensures)

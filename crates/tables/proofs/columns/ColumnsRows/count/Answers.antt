@@ -1,6 +1,0 @@
-use Rattle.std.proofs.Common.{arith}
-use Rattle.tables.specs.Columned.{columns_count}
-use Rattle.tables.proofs.columns.ColumnsRows.count.Goals as goal
-
-pub returns : goal.returns
-returns c = let t = c.args.self.now in omega (arith, c.min.ensures, columns_count t.words.now t.width t.count)

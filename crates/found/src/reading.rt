@@ -8,7 +8,7 @@ ghost use Rattle.std.proofs.Common.{rules};
 use crate::record::{RECORD_BYTES, Record, RecordBytes};
 use marks::{Reason, Refusal, StrictOrder, first_unordered};
 
-// By the set, in list order.
+// By the set, in list order. By the trait of the check of neighbours, a rule of the product: `PartialOrd` would have to tell apart records of one set.
 impl StrictOrder for Record {
     ghost before = { λ p q. Before p.set.bits q.set.bits };
 

@@ -76,7 +76,7 @@ fn first_off_range(pairs: &[Pair]) -> Option<u64>
         .map(|at| at as u64 + 1)
 }
 
-// How many pairs at the front come each after the one at its left.
+// How many pairs at the front come each after the one at its left. A count, and all pairs where none is out of order: an Option of the first that is out would be no plainer, since the lesser of two places is wanted.
 fn ordered_front(pairs: &[Pair]) -> usize
     ensures within { result ≤ length pairs.now }
     ensures rising { Rising PairBefore pairs.now result }

@@ -33,7 +33,7 @@ pub fn first_unordered<E: StrictOrder>(elements: &[E]) -> Option<usize>
     Some(left + 2)
 }
 
-// The list order of sets: the one that holds the lowest mark on which they differ comes first.
+// The list order of sets: the one that holds the lowest mark on which they differ comes first. By the trait of the rule above, and not derived: it is not the order of the numbers.
 impl StrictOrder for MarkSet {
     ghost before = { λ x y. Before x.bits y.bits };
 

@@ -1,7 +1,6 @@
 use Rattle.std.proofs.Common.{cond, ap, ◌∙◌}
-use Rattle.tables.specs.declared.holding.Holding.{Holding}
 use Rattle.tables.specs.Holding.{held_by, holding_of, joined}
-use Rattle.tables.proofs.Passing.{passing_start, passing_more, passing_all, holding_none, holding_more}
+use Rattle.tables.proofs.Passing.{passing_start, passing_more, holding_none, holding_more}
 use Rattle.tables.proofs.holding.Holding.of.Goals as goal
 
 pub loop-charge-init : goal.loop-charge-init
@@ -18,10 +17,3 @@ loop-charge-preserved g c =
     passing_more (λ m. holding_of m s) m (λ row h. cond (held_by s row) (joined row h) h) (holding_more m s (g.met.T.Table.proper c.args.table.now).few)
     c.loop-charge.yielded c.loop-charge.charge-iterator c.next.new.self c.in-Some.charge c.in-Some.ensures.steps c.loop-charge.holding c.note.new.self c.loop-charge.invariant
     (c.note.ensures ∙ ap (λ row. cond (held_by s row) (joined row c.loop-charge.holding) c.loop-charge.holding) c.row.ensures)
-
-pub returns : goal.returns
-returns g c =
-    let m = g.T.Table.meaning c.args.table.now in
-    let s = c.args.set.bits in
-    let done = passing_all (λ m. holding_of m s) m c.loop-charge.yielded c.loop-charge.charge-iterator c.in-None.ensures.steps.0 c.loop-charge.holding c.loop-charge.invariant in
-    record { support = ap (λ (h : Holding). h.support) done; closure = ap (λ (h : Holding). h.closure.bits) done }

@@ -59,10 +59,7 @@ impl<T: Table, W: Limit> Query<T, W> {
         } = start;
         // A search and no walk: which mark comes next depends on the node that was opened last.
         while let Some(mark) = node.free(all).lowest() {
-            let Some(child) = self.open(node.ins.with(mark), node.outs, opened) else {
-                unreachable()
-            };
-            node = child;
+            node = self.open(node.ins.with(mark), node.outs, opened).unwrap();
             turns = turns.with(mark);
         }
         Leaf {

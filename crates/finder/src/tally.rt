@@ -19,7 +19,7 @@ fn join_each(marks: &mut [Holding; MARKS], row: MarkSet)
     ensures { marks.new ≡ joined_each row.bits marks.old }
 {
     for mark in row.marks() {
-        marks[mark.bit() as usize].join(row);
+        marks[mark.place()].join(row);
     }
 }
 
@@ -62,6 +62,6 @@ impl Tally {
     pub fn with(&self, mark: Mark) -> Holding
         ensures { result ≡ slice_index_or self.now.marks (bit_of mark.number) no_holding }
     {
-        self.marks[mark.bit() as usize]
+        self.marks[mark.place()]
     }
 }

@@ -9,7 +9,7 @@ ghost use Rattle.std.proofs.Common.{rules};
 ghost use Rattle.limits.specs.Barring.{unbarred_parts};
 
 use crate::limit::Limit;
-use marks::{Mark, MarkSet, Reason, Refusal, StrictOrder, first_unordered};
+use marks::{Mark, MarkSet, Reason, Refusal, StrictOrder, first_passing, first_unordered};
 
 /// Two marks, by their numbers; in order by the first, and then by the second.
 #[derive(Clone, Copy, PartialEq, Eq, PartialOrd, Ord, Debug)]
@@ -70,10 +70,7 @@ fn holds_number(set: MarkSet, number: u64) -> bool
 fn first_off_range(pairs: &[Pair]) -> Option<u64>
     ensures { result ≡ first_place off_range pairs.now }
 {
-    pairs
-        .iter()
-        .position(|pair| pair.is_off_range())
-        .map(|at| at as u64 + 1)
+    first_passing(pairs, |pair| pair.is_off_range())
 }
 
 // How many pairs at the front come each after the one at its left. A count, and all pairs where none is out of order: an Option of the first that is out would be no plainer, since the lesser of two places is wanted.
@@ -86,7 +83,7 @@ fn ordered_front(pairs: &[Pair]) -> usize
     first_unordered(pairs).map_or(pairs.len(), |place| place - 1)
 }
 
-// The place of the first pair that has not its lower mark first, or does not come after the one at its left.
+// The place of the first pair that has not its lower mark first, or does not come after the one at its left: not by `first_passing`, since it is the lesser of two places.
 fn first_misplaced(pairs: &[Pair]) -> Option<u64>
     ensures { result ≡ first_place (misplaced pairs.now) (range_with_len 0 (length pairs.now)) }
 {

@@ -29,7 +29,7 @@ impl Weight {
         ensures { result ≡ weight_of self.now.weights set.bits }
     {
         set.marks()
-            .map(|mark| u64::from(self.weights[mark.bit() as usize]))
+            .map(|mark| u64::from(self.weights[mark.place()]))
             .sum()
     }
 }

@@ -1,6 +1,9 @@
 -- Going over the marks of a set, and gathering those that pass a test.
 use Rattle.std.proofs.Common.{◌≡◌, ℕ, ◌^◌, ◌<◌, Bool, true, false, cond, not, ◌&&◌, ◌≢◌, eqb, [], sum_by, refl, sym, ap, ◌∙◌, subst, ⊎_elim, arith}
-use Rattle.std.proofs.lemmas.Bool.{cases_eq, eq-eqb, ne_eqb}
+use Rattle.std.proofs.lemmas.Bool.{both_ways, cases_eq, eq-eqb, ne_eqb}
+use Rattle.marks.specs.Filtering.{Filtered}
+use Rattle.marks.specs.Kinds.{Mark}
+use Rattle.marks.specs.Numbers.{bit_of}
 use Rattle.marks.specs.Sets.{has, all_below, bits_below, with_bit, picked}
 use Rattle.marks.specs.Members.{has_all_below, has_below, has_none}
 use Rattle.marks.specs.Parts.{has_with, has_without, same_members}
@@ -15,9 +18,10 @@ no_more s fits e = sym (sum_bits 32 s fits) ∙ ap (sum_by (λ (b : ℕ). 2 ^ b)
 abbrev pub Within : ℕ → ℕ → Type 0
 Within all rest = (b : ℕ) → has rest b ≡ true → has all b ≡ true
 
--- the set has the marks that pass, of those of `all` that are no longer in `rest`
-abbrev pub Gathered : (ℕ → Bool) → ℕ → ℕ → ℕ → Type 0
-Gathered test all rest set = (b : ℕ) → has set b ≡ (has all b && (test b && not (has rest b)))
+-- of the marks of `all` that are no longer in `rest`, the set has just those for which the test answered true
+pub record Gathered (may : Mark → Bool → Type 0) (all rest set : ℕ) : Type 0 where
+  pub asked : (b : ℕ) → has all b ≡ true → has rest b ≡ false → (mark : Mark) × (bit_of mark.number ≡ b) × may mark (has set b)
+  pub part : (b : ℕ) → has set b ≡ true → (has all b ≡ true) × (has rest b ≡ false)
 
 pub within_start : (all rest : ℕ) → rest ≡ all → Within all rest
 within_start all rest e b h = subst (λ (s : ℕ). has s b ≡ true) e h
@@ -28,36 +32,79 @@ less rest b rest' fits next j = ap (λ (s : ℕ). has s j) next.rest ∙ has_wit
 pub within_more : (all rest b rest' : ℕ) → rest < 2 ^ 32 → Follows rest b rest' → Within all rest → Within all rest'
 within_more all rest b rest' fits next before j h = before j (let k : has rest j ≡ true = grind (arith, less rest b rest' fits next j) in k)
 
-module _ (test : ℕ → Bool) (all : ℕ) where
-  pub gathered_start : (rest set : ℕ) → rest ≡ all → set ≡ 0 → Gathered test all rest set
-  gathered_start rest set e z b = rw (z, e, has_none b) (grind arith)
+module _ (may : Mark → Bool → Type 0) (all : ℕ) where
+  pub gathered_start : (rest set : ℕ) → rest ≡ all → set ≡ 0 → Gathered may all rest set
+  gathered_start rest set e z = record {
+    asked = λ b h k. absurd (both_ways (has rest b) k (subst (λ (s : ℕ). has s b ≡ true) (sym e) h));
+    part = λ b h. absurd (both_ways (has set b) (ap (λ (s : ℕ). has s b) z ∙ has_none b) h);
+  }
 
-  pub gathered_more : (rest b rest' : ℕ) → rest < 2 ^ 32 → Follows rest b rest' → Within all rest → (set set' : ℕ) → Gathered test all rest set
-      → set' ≡ cond (test b) (with_bit set b) set → Gathered test all rest' set'
-  gathered_more rest b rest' fits next inside set set' before e j = ap (λ (s : ℕ). has s j) e ∙ more (test b) refl
+  pub gathered_more : (rest rest' set set' : ℕ) (mark : Mark) (answer : Bool) → rest < 2 ^ 32 → Follows rest (bit_of mark.number) rest' → Within all rest → Gathered may all rest set
+      → may mark answer → set' ≡ cond answer (with_bit set (bit_of mark.number)) set → Gathered may all rest' set'
+  gathered_more rest rest' set set' mark answer fits next inside before said e = record { asked = asked; part = part }
     where
-      gone : has rest' j ≡ (has rest j && not (eqb b j))
-      gone = less rest b rest' fits next j
+      b : ℕ
+      b = bit_of mark.number
 
-      more : (t : Bool) → test b ≡ t → has (cond t (with_bit set b) set) j ≡ (has all j && (test j && not (has rest' j)))
-      more t k = ⊎_elim (here t k) (there t) (cases_eq b j)
+      gone : (j : ℕ) → has rest' j ≡ (has rest j && not (eqb b j))
+      gone j = less rest b rest' fits next j
+
+      fresh : (t : Bool) → has set b ≡ t → t ≡ false
+      fresh true h = absurd (both_ways (has rest b) (before.part b h).1 next.lowest.held)
+      fresh false h = refl
+
+      here : has set' b ≡ answer
+      here = ap (λ (s : ℕ). has s b) e ∙ by answer
         where
-          here : (t : Bool) → test b ≡ t → b ≡ j → has (cond t (with_bit set b) set) j ≡ (has all j && (test j && not (has rest' j)))
-          here true k d =
-              let p : test j ≡ true = subst (λ (i : ℕ). test i ≡ true) d k in
-              let a : has all j ≡ true = inside j (subst (λ (i : ℕ). has rest i ≡ true) d next.lowest.held) in
-              has_with set b j ∙ rw (eq-eqb b j d, gone, eq-eqb b j d, p, a) (grind arith)
-          here false k d =
-              let p : test j ≡ false = subst (λ (i : ℕ). test i ≡ false) d k in
-              before j ∙ rw p (grind arith)
+          by : (t : Bool) → has (cond t (with_bit set b) set) b ≡ t
+          by true = has_with set b b ∙ rw (eq-eqb b b refl) (grind arith)
+          by false = fresh (has set b) refl
 
-          there : (t : Bool) → b ≢ j → has (cond t (with_bit set b) set) j ≡ (has all j && (test j && not (has rest' j)))
-          there true d = has_with set b j ∙ rw (gone, ne_eqb b j d, before j) (grind arith)
-          there false d = before j ∙ rw (gone, ne_eqb b j d) (grind arith)
+      there : (j : ℕ) → b ≢ j → has set' j ≡ has set j
+      there j d = ap (λ (s : ℕ). has s j) e ∙ by answer
+        where
+          by : (t : Bool) → has (cond t (with_bit set b) set) j ≡ has set j
+          by true = has_with set b j ∙ rw (ne_eqb b j d) (grind arith)
+          by false = refl
 
-  pub gathered_all : (rest set : ℕ) → rest ≡ 0 → Gathered test all rest set → (b : ℕ) → has set b ≡ (has all b && test b)
-  gathered_all rest set z done b = done b ∙ rw (z, has_none b) (grind arith)
+      asked : (j : ℕ) → has all j ≡ true → has rest' j ≡ false → (mark : Mark) × (bit_of mark.number ≡ j) × may mark (has set' j)
+      asked j h k = ⊎_elim same other (cases_eq b j)
+        where
+          same : b ≡ j → (mark : Mark) × (bit_of mark.number ≡ j) × may mark (has set' j)
+          same d = (mark, d, subst (λ (i : ℕ). may mark (has set' i)) d (subst (may mark) (sym here) said))
 
--- what is kept of all marks up to n is what is picked below n
-pub kept_picked : (test : ℕ → Bool) (n all kept : ℕ) → all ≡ all_below n → ((b : ℕ) → has kept b ≡ (has all b && test b)) → kept ≡ picked test n
-kept_picked test n all kept e at = same_members kept (picked test n) (λ b. at b ∙ rw (e, has_all_below n b, has_picked test n b))
+          other : b ≢ j → (mark : Mark) × (bit_of mark.number ≡ j) × may mark (has set' j)
+          other d =
+              let left : has rest j ≡ false = grind (arith, gone j, ne_eqb b j d) in
+              let was = before.asked j h left in
+              (was.0, was.1, subst (may was.0) (sym (there j d)) was.2)
+
+      part : (j : ℕ) → has set' j ≡ true → (has all j ≡ true) × (has rest' j ≡ false)
+      part j h = ⊎_elim same other (cases_eq b j)
+        where
+          same : b ≡ j → (has all j ≡ true) × (has rest' j ≡ false)
+          same d = (subst (λ (i : ℕ). has all i ≡ true) d (inside b next.lowest.held), gone j ∙ rw (eq-eqb b j d) (grind arith))
+
+          other : b ≢ j → (has all j ≡ true) × (has rest' j ≡ false)
+          other d =
+              let was = before.part j (sym (there j d) ∙ h) in
+              (was.0, gone j ∙ rw was.1 (grind arith))
+
+  pub gathered_all : (rest set : ℕ) → rest ≡ 0 → Gathered may all rest set → Filtered may all set
+  gathered_all rest set z done = record { asked = λ b h. done.asked b h (ap (λ (s : ℕ). has s b) z ∙ has_none b); part = λ b h. (done.part b h).0 }
+
+-- a test whose answers are determined leaves the marks that pass
+module _ (may : Mark → Bool → Type 0) (test : ℕ → Bool) (all kept : ℕ) (sure : (mark : Mark) (answer : Bool) → has all (bit_of mark.number) ≡ true → may mark answer → answer ≡ test (bit_of mark.number)) where
+  pub filtered_has : Filtered may all kept → (b : ℕ) → has kept b ≡ (has all b && test b)
+  filtered_has f b = by (has all b) refl (has kept b) refl
+    where
+      by : (x : Bool) → has all b ≡ x → (y : Bool) → has kept b ≡ y → y ≡ (x && test b)
+      by true h y k =
+          let was = f.asked b h in
+          sym k ∙ sure was.0 (has kept b) (subst (λ (i : ℕ). has all i ≡ true) (sym was.1) h) was.2 ∙ ap test was.1
+      by false h true k = absurd (both_ways (has all b) h (f.part b k))
+      by false h false k = refl
+
+  -- of all marks up to n, what is picked below n
+  pub filtered_picked : (n : ℕ) → all ≡ all_below n → Filtered may all kept → kept ≡ picked test n
+  filtered_picked n e f = same_members kept (picked test n) (λ b. filtered_has f b ∙ rw (e, has_all_below n b, has_picked test n b))

@@ -1,10 +1,10 @@
 -- The first element of a list that passes a test.
-use Rattle.std.proofs.Common.{◌≡◌, ℕ, zero, suc, ◌+◌, ◌<◌, Bool, true, false, cond, List, [], ◌∷◌, length, get_or, Some, None, Option, sym, refl, ap, ◌∙◌, arith}
-use Rattle.std.specs.List.{range_with_len, position, position_from}
+use Rattle.std.proofs.Common.{◌≡◌, ℕ, zero, suc, ◌+◌, ◌-◌, ◌<◌, Bool, true, false, cond, List, [], ◌∷◌, length, get_or, Some, None, Option, MatchOption, sym, refl, ap, ◌∙◌, arith}
+use Rattle.std.specs.List.{range_with_len, position, position_from, AllWithin, HoldsAt}
 use Rattle.std.specs.Option.{option_map}
 use Rattle.std.proofs.lemmas.Iterator.Adapters.{position_from-zero}
 use Rattle.std.proofs.lemmas.List.FromFn.{length-range_with_len, get_or-range_with_len}
-use Rattle.marks.specs.Places.{first_place}
+use Rattle.marks.specs.Places.{first_place, FirstPassing}
 
 module _ {A : Type 0} (test : A → Bool) (d : A) where
   -- one passes, and none before it
@@ -82,3 +82,25 @@ module _ {A : Type 0} (test : A → Bool) where
       unmoved : (o : Option ℕ) → o ≡ option_map (λ k. k + 0) o
       unmoved None = refl
       unmoved (Some k) = let e : k ≡ k + 0 = omega arith in ap (λ (n : ℕ). Some n) e
+
+-- ---- a test whose answer may be left open
+
+module _ {A : Type 0} (may : A → Bool → Type 0) where
+  -- what the library says of `position`, as a place
+  pub first_of_position : (xs : List A) (at place : Option ℕ)
+      → MatchOption at (AllWithin (λ x. may x false) xs 0 (length xs)) (λ i. (i < length xs) × HoldsAt (λ x. may x true) xs i × AllWithin (λ x. may x false) xs 0 i)
+      → place ≡ option_map (λ k. k + 1) at → FirstPassing may xs place
+  first_of_position xs None place all e = rw e (record { first = λ k d h. all k d (omega arith) h })
+  first_of_position xs (Some i) place first e =
+      let same : i + 1 - 1 ≡ i = omega arith in
+      rw e (record { first = rw same (omega arith, omega arith, first.1, first.2) })
+
+-- if its answers are determined after all, the place is that of the first element that passes
+pub passing_first : {A : Type 0} (may : A → Bool → Type 0) (test : A → Bool) (xs : List A) (place : Option ℕ) → FirstPassing may xs place → ((x : A) (b : Bool) → may x b → b ≡ test x)
+    → place ≡ first_place test xs
+passing_first may test [] None f sure = refl
+passing_first may test [] (Some place) f sure = absurd (omega (arith, f.first))
+passing_first may test (x ∷ xs) None f sure = sym (first_place_none test x (x ∷ xs) (λ k h. sym (sure _ _ (f.first k x h))))
+passing_first may test (x ∷ xs) (Some place) f sure =
+    let same : place - 1 + 1 ≡ place = omega (arith, f.first) in
+    sym (first_place_some test x (x ∷ xs) (place - 1) (omega (arith, f.first)) (sym (sure _ _ (f.first.2 x))) (λ k h. sym (sure _ _ (f.first.3 k x (omega arith) h))) ∙ ap (λ (k : ℕ). Some k) same)

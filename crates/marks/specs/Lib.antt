@@ -8,3 +8,4 @@ pub mod Sizes
 pub mod Members
 pub mod Parts
 pub mod Kinds
+pub mod Filtering

@@ -1,11 +1,13 @@
 // What everything else speaks in: marks, charges, widths and supports; sets of marks; refusals.
 #![tactic(auto)]
 
+pub mod firsts;
 pub mod numbers;
 pub mod orders;
 pub mod refusal;
 pub mod sets;
 
+pub use firsts::first_passing;
 pub use numbers::charge::Charge;
 pub use numbers::mark::Mark;
 pub use numbers::support::Support;

@@ -1,5 +1,5 @@
 // The numbers that everything else speaks in: marks, charges, widths and supports. Each is a type of its own, whose range is part of the type.
-ghost use Rattle.std.specs.Prelude.{◌≡◌, ⊤};
+ghost use Rattle.std.specs.Prelude.{◌≡◌, ◌-◌, ◌<◌, ⊤};
 ghost use Rattle.marks.specs.Numbers.{InRange};
 ghost use Rattle.marks.specs.Refusals.{Answers, range_refusal};
 
@@ -70,5 +70,13 @@ impl<K, const MOST: u32> Number<K, MOST> {
         ensures range { InRange MOST result }
     {
         self.number
+    }
+
+    /// How many numbers of the kind come before this one: its index in a list that has something for each, and a mark's bit in a set.
+    pub fn place(self) -> usize
+        ensures value { result ≡ self.number - 1 }
+        ensures bound { result < MOST }
+    {
+        self.get() as usize - 1
     }
 }

@@ -1,6 +1,7 @@
 // Sets of marks. Each operation promises the set that a definition gives; which marks these sets have is promised once, by `holds`.
 ghost use Rattle.std.specs.Prelude.{◌≡◌, ℕ, ◌^◌, ◌<◌, Bool, true, ◌&&◌, if◌then◌else◌, MatchOption, ◌==◌};
 ghost use Rattle.std.specs.Iterator.{YieldsFirstBy, item_count};
+ghost use Rattle.marks.specs.Filtering.{Filtered};
 ghost use Rattle.marks.specs.Numbers.{bit_of, most_marks};
 ghost use Rattle.marks.specs.Sets.{bits_below, has, no_marks, only, all_below, either, both, differing, minus, with_bit, without_bit, part_of, size_of, Lowest, Highest, Membership};
 
@@ -43,7 +44,7 @@ impl MarkSet {
         ensures { result.bits ≡ only (bit_of mark.number) }
     {
         MarkSet {
-            bits: 1 << mark.bit(),
+            bits: 1 << mark.place(),
         }
     }
 
@@ -70,7 +71,7 @@ impl MarkSet {
         ensures value { result ≡ has self.bits (bit_of mark.number) }
         ensures laws { Membership }
     {
-        self.bits >> mark.bit() & 1 == 1
+        self.bits >> mark.place() & 1 == 1
     }
 
     /// The set with the mark.
@@ -181,7 +182,7 @@ impl MarkSet {
     /// The marks of the set for which the test answers true.
     pub fn filter<F: Fn(Mark) -> bool>(self, test: F) -> MarkSet
         requires { (mark : _) → has self.bits (bit_of mark.number) ≡ true → F.pre test mark }
-        ensures { (passes : ℕ → Bool) → ((mark : _) (answer : Bool) → has self.bits (bit_of mark.number) ≡ true → F.post test mark answer → answer ≡ passes (bit_of mark.number)) → (b : ℕ) → has result.bits b ≡ (has self.bits b && passes b) }
+        ensures { Filtered (F.post test) self.bits result.bits }
     {
         let mut kept = MarkSet::empty();
         for mark in self.marks() {

@@ -70,5 +70,6 @@ fn charges_in_turn(rt: HostRuntime) -> Result<(), Fail> {
     assert_eq!(rt; Charge::up_to(u32::MAX).nth(65_536), None);
     assert_eq!(rt; Charge::new(1)?.place(), 0);
     assert_eq!(rt; Charge::new(65_536)?.place(), 65_535);
+    assert_eq!(rt; Mark::new(32)?.place(), 31);
     Ok(())
 }

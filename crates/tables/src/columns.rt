@@ -77,7 +77,7 @@ impl<'a> Columns<'a> {
     {
         let used = self.count as usize % WORD_BITS;
         let per = words_per_mark(self.count);
-        used != 0 && self.words[mark.bit() as usize * per + per - 1] >> used != 0
+        used != 0 && self.words[mark.place() * per + per - 1] >> used != 0
     }
 
     // Whether a mark has a charge's bit.
@@ -89,7 +89,7 @@ impl<'a> Columns<'a> {
     {
         let per = words_per_mark(self.count);
         let place = charge.place();
-        self.words[mark.bit() as usize * per + place / WORD_BITS] >> (place % WORD_BITS) & 1 == 1
+        self.words[mark.place() * per + place / WORD_BITS] >> (place % WORD_BITS) & 1 == 1
     }
 }
 

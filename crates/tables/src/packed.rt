@@ -7,7 +7,7 @@ ghost use Rattle.tables.specs.Packed.{chunk_row, chunk_rows, packed_rows, strays
 ghost use Rattle.tables.specs.Chunked.{packed_proper};
 
 use crate::table::Table;
-use marks::{Charge, MOST_CHARGES, MarkSet, Reason, Refusal, Width};
+use marks::{Charge, MOST_CHARGES, MarkSet, Reason, Refusal, Width, first_passing};
 
 /// How many bytes a row has.
 pub const ROW_BYTES: usize = 4;
@@ -32,9 +32,7 @@ fn row_at(bytes: &[u8; ROW_BYTES]) -> MarkSet
 fn first_stray(rows: &[[u8; ROW_BYTES]], all: MarkSet) -> Option<u64>
     ensures { result ≡ first_place (strays all.bits) (chunk_rows rows.now) }
 {
-    rows.iter()
-        .position(|bytes| !row_at(bytes).is_part_of(all))
-        .map(|index| index as u64 + 1)
+    first_passing(rows, |bytes| !row_at(bytes).is_part_of(all))
 }
 
 impl<'a> Packed<'a> {

@@ -13,14 +13,6 @@ pub enum ChargeKind {}
 pub type Charge = Number<ChargeKind, MOST_CHARGES>;
 
 impl Number<ChargeKind, MOST_CHARGES> {
-    /// How many charges come before this one.
-    pub fn place(self) -> usize
-        ensures value { result ≡ self.number - 1 }
-        ensures bound { result < most_charges }
-    {
-        self.get() as usize - 1
-    }
-
     /// Charge 1, if there are any among `count`.
     pub fn first(count: u32) -> Option<Charge>
         ensures { MatchOption result (count ≡ 0) (λ c. (c.number ≡ 1) × (1 ≤ count)) }

@@ -1,6 +1,6 @@
 // Marks.
 ghost use Rattle.std.specs.Prelude.{◌≡◌, ◌+◌, ◌<◌, ◌≤◌, MatchOption};
-ghost use Rattle.marks.specs.Numbers.{most_marks, bit_of};
+ghost use Rattle.marks.specs.Numbers.{most_marks};
 
 use crate::numbers::width::Width;
 use crate::numbers::{MOST_MARKS, Number};
@@ -18,14 +18,6 @@ impl Number<MarkKind, MOST_MARKS> {
         ensures { result.number ≡ bit + 1 }
     {
         Number::of(bit + 1)
-    }
-
-    /// The bit of the mark in a set, which counts from 0.
-    pub fn bit(self) -> u32
-        ensures value { result ≡ bit_of self.number }
-        ensures bound { result < most_marks }
-    {
-        self.get() - 1
     }
 
     /// Mark 1, which every table has.

@@ -18,7 +18,7 @@ fn put(words: &mut [u64], per: usize, charge: Charge, row: MarkSet)
 {
     let place = charge.place();
     for mark in row.marks() {
-        words[mark.bit() as usize * per + place / WORD_BITS] |= 1 << (place % WORD_BITS);
+        words[mark.place() * per + place / WORD_BITS] |= 1 << (place % WORD_BITS);
     }
 }
 

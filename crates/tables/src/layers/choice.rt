@@ -7,7 +7,7 @@ ghost use Rattle.marks.specs.Refusals.{Answers};
 ghost use Rattle.tables.specs.Chosen.{chosen};
 ghost use Rattle.tables.specs.Layers.{repeats, choice_refusal, chosen_from};
 
-use marks::{MARKS, Mark, MarkSet, Reason, Refusal, Width};
+use marks::{MARKS, Mark, MarkSet, Reason, Refusal, Width, first_passing};
 use std::array;
 
 /// Different marks in an order: the first `width` of the array.
@@ -30,13 +30,10 @@ fn is_outside(number: u64) -> bool
 fn first_outside(numbers: &[u64]) -> Option<u64>
     ensures { result ≡ first_place (λ mark. not (in_range most_marks mark)) numbers.now }
 {
-    numbers
-        .iter()
-        .position(|number| is_outside(*number))
-        .map(|index| index as u64 + 1)
+    first_passing(numbers, |number| is_outside(*number))
 }
 
-// The place of the first number that stands before it too.
+// The place of the first number that stands before it too. Not by `first_passing`, since the test needs the index.
 fn first_repeat(numbers: &[u64]) -> Option<u64>
     ensures { result ≡ first_place (repeats numbers.now) (range_with_len 0 (length numbers.now)) }
 {
@@ -91,6 +88,6 @@ impl Choice {
     pub(crate) fn of(self, row: MarkSet) -> MarkSet
         ensures { result.bits ≡ chosen_from (chosen self.marks self.width.number) row.bits }
     {
-        MarkSet::up_to(self.width).filter(|mark| row.holds(self.marks[mark.bit() as usize]))
+        MarkSet::up_to(self.width).filter(|mark| row.holds(self.marks[mark.place()]))
     }
 }

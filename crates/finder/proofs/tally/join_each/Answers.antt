@@ -10,7 +10,7 @@ loop-mark-preserved c =
     let b = bit_of c.in-Some.mark.number in
     let rest' = c.next.new.self in
     joining_more c.args.row.bits rest.rest.bits b rest'.rest.bits rest.fits (follows rest.rest.bits b rest'.rest.bits rest.fits rest'.fits c.in-Some.ensures.steps)
-    c.args.marks.now c.loop-mark.marks c.bit.result _ c.bit.ensures.value c.join.ensures c.loop-mark.invariant
+    c.args.marks.now c.loop-mark.marks c.place.result _ c.place.ensures.value c.join.ensures c.loop-mark.invariant
 
 pub returns : goal.returns
 returns c =

@@ -7,6 +7,6 @@ use Rattle.marks.proofs.sets.MarkSet.holds.Goals as goal
 pub returns : goal.returns
 returns c =
     record {
-      value = has_shifted c.args.self.bits c.bit.result ∙ ap (has c.args.self.bits) c.bit.ensures.value;
+      value = has_shifted c.args.self.bits c.place.result ∙ ap (has c.args.self.bits) c.place.ensures.value;
       laws = membership;
     }

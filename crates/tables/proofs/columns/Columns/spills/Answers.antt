@@ -10,8 +10,8 @@ pub returns-then-used-ne0 : goal.returns-then-used-ne0
 returns-then-used-ne0 c =
     let t = c.args.self.now in
     let at : ℕ → ℕ → ℕ = λ b per. get_or t.words.now (b * per + per - 1) 0 in
-    let read : at c.bit.result c.words_per_mark-per.result < 2 ^ word_bits = omega arith in
-    let same : at c.bit.result c.words_per_mark-per.result ≡ at (bit_of c.args.mark.number) (words_per_mark t.count) = ap₂ at c.bit.ensures.value c.words_per_mark-per.ensures.value in
+    let read : at c.place.result c.words_per_mark-per.result < 2 ^ word_bits = omega arith in
+    let same : at c.place.result c.words_per_mark-per.result ≡ at (bit_of c.args.mark.number) (words_per_mark t.count) = ap₂ at c.place.ensures.value c.words_per_mark-per.ensures.value in
     let past = past_is t.words.now t.count (bit_of c.args.mark.number) c.if-used-ne0.true (subst (λ word. word < 2 ^ word_bits) same read) in
     ap (λ past. not (eqb past no_marks)) (ap (λ word. word / 2 ^ (t.count % word_bits)) same ∙ sym past)
 

@@ -1,6 +1,6 @@
 use Rattle.std.proofs.Common.{rules, ℕ, ◌-◌, ◌≤◌, Bool, get_or, sym, ap, ◌∙◌, arith}
 use Rattle.std.proofs.lemmas.List.{get_or_past}
-use Rattle.marks.proofs.Gathering.{kept_picked}
+use Rattle.marks.proofs.Gathering.{filtered_picked}
 use Rattle.tables.specs.Columns.{words_per_mark, column_has, columns_meaning}
 use Rattle.tables.specs.Meaning.{Meaning}
 use Rattle.tables.specs.Columned.{column_at, columns_count, columns_same}
@@ -26,5 +26,5 @@ returns c =
     let n = t.width.number in
     let k : ℕ = c.args.charge.number - 1 in
     let test : ℕ → Bool = λ b. column_has t.words.now (words_per_mark t.count) b k in
-    kept_picked test n c.up_to.result.bits c.filter.result.bits c.up_to.ensures (c.filter.ensures test (λ mark answer held post. search rules))
+    filtered_picked _ test c.up_to.result.bits c.filter.result.bits (λ mark answer held post. search rules) n c.up_to.ensures c.filter.ensures
     ∙ sym (ap (λ (m : Meaning). get_or m.rows k 0) (columns_same t.words.now n t.count t.width.range t.few) ∙ column_at t.words.now n t.count k (omega arith))

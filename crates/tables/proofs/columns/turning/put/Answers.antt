@@ -29,16 +29,16 @@ within per t row b bit size before after room part inside e same =
     let next = follows before.rest.bits b after.rest.bits before.fits after.fits e in
     omega (arith, room b (part_has before.rest.bits row b part next.lowest.held), ap (λ x. x * per) same)
 
-pub bounds-words-bit : goal.bounds-words-bit
-bounds-words-bit c =
+pub bounds-words-place : goal.bounds-words-place
+bounds-words-place c =
     let words = c.args.words.now in
-    let at = within c.args.per c.place-place.result c.args.row.bits _ c.bit.result (length words) c.loop-mark.mark-iterator c.next.new.self c.requires.room c.loop-mark.invariant.part (omega arith) c.in-Some.ensures.steps c.bit.ensures.value in
+    let at = within c.args.per c.place-place.result c.args.row.bits _ c.place.result (length words) c.loop-mark.mark-iterator c.next.new.self c.requires.room c.loop-mark.invariant.part (omega arith) c.in-Some.ensures.steps c.place.ensures.value in
     omega (arith, at, c.loop-mark.auto.words)
 
-pub bounds-words-bit-in-loop-mark : goal.bounds-words-bit-in-loop-mark
-bounds-words-bit-in-loop-mark c =
+pub bounds-words-place-in-loop-mark : goal.bounds-words-place-in-loop-mark
+bounds-words-place-in-loop-mark c =
     let words = c.args.words.now in
-    let at = within c.args.per c.place-place.result c.args.row.bits _ c.bit.result (length words) c.loop-mark.mark-iterator c.next.new.self c.requires.room c.loop-mark.invariant.part (omega arith) c.in-Some.ensures.steps c.bit.ensures.value in
+    let at = within c.args.per c.place-place.result c.args.row.bits _ c.place.result (length words) c.loop-mark.mark-iterator c.next.new.self c.requires.room c.loop-mark.invariant.part (omega arith) c.in-Some.ensures.steps c.place.ensures.value in
     omega (arith, at, c.loop-mark.auto.words)
 
 pub loop-mark-preserved : goal.loop-mark-preserved
@@ -62,8 +62,8 @@ loop-mark-preserved c =
     rw next.rest (record {
       part = part_trans (without_bit rest b) rest row (minus_part rest (2 ^ b) before.fits (pow_below b 32 low)) part;
       so_far = λ i h.
-          ap (λ v. get_or (set words (at c.bit.result) (bit_or (get_or words (at c.bit.result) 0) v)) i 0) (one_shl (t % word_bits) word_bits (omega arith))
-          ∙ ap (λ x. get_or (set words (at x) (with_bit (get_or words (at x) 0) (t % word_bits))) i 0) c.bit.ensures.value
+          ap (λ v. get_or (set words (at c.place.result) (bit_or (get_or words (at c.place.result) 0) v)) i 0) (one_shl (t % word_bits) word_bits (omega arith))
+          ∙ ap (λ x. get_or (set words (at x) (with_bit (get_or words (at x) 0) (t % word_bits))) i 0) c.place.ensures.value
           ∙ put_more per t row inside (omega arith) rest b held part before.fits low words old (length old) (omega (arith, size, c.loop-mark.auto.words)) c.loop-mark.invariant.so_far size i h;
     })
 

@@ -2,7 +2,7 @@ use Rattle.std.proofs.Common.{rules, ◌≡◌, ℕ, ◌≤◌, Bool, true, leng
 use Rattle.marks.specs.Kinds.{Mark}
 use Rattle.marks.specs.Numbers.{bit_of}
 use Rattle.marks.specs.Sets.{has, picked}
-use Rattle.marks.proofs.Gathering.{kept_picked}
+use Rattle.marks.proofs.Gathering.{filtered_picked}
 use Rattle.tables.specs.Chosen.{chosen}
 use Rattle.tables.specs.Choosing.{chosen_length, chosen_at}
 use Rattle.tables.proofs.Across.{mark_within}
@@ -19,5 +19,5 @@ returns c =
     let at : (mark : Mark) → has c.up_to.result.bits (bit_of mark.number) ≡ true → (d : Mark) → has row (bit_of (get_or all (bit_of mark.number) d).number) ≡ test (bit_of mark.number) =
     λ mark held d. let inside : mark.number ≤ n = mark_within n c.up_to.result.bits c.up_to.ensures mark held in
     ap (λ i. has row (bit_of i)) (sym (chosen_at all n (bit_of mark.number) d (omega (arith, mark.range.0)) (omega (arith, mark.range.0)))) in
-    kept_picked test n c.up_to.result.bits c.filter.result.bits c.up_to.ensures (c.filter.ensures test (λ mark answer held post. let same = at mark held in search (rules, same)))
+    filtered_picked _ test c.up_to.result.bits c.filter.result.bits (λ mark answer held post. let same = at mark held in search (rules, same)) n c.up_to.ensures c.filter.ensures
     ∙ ap (picked test) (sym long)

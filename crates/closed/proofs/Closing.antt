@@ -1,16 +1,16 @@
 -- The laws of closure and support.
-use Rattle.std.proofs.Common.{◌≡◌, ℕ, ◌^◌, ◌<◌, ◌≤◌, Bool, true, false, cond, List, [], ◌∷◌, length, Decides, fold, filter, sym, refl, ◌∙◌, arith}
+use Rattle.std.proofs.Common.{◌≡◌, ℕ, ◌^◌, ◌<◌, ◌≤◌, Bool, true, false, cond, List, [], ◌∷◌, length, Decides, fold, filter, ◌⊎◌, inl, inr, sym, refl, ◌∙◌, subst, arith}
 use lib.Bits.{bit_and}
 use Rattle.std.specs.List.{ContainsAt as Has, AllByRecursion}
 use Rattle.std.proofs.ByRecursion.{All-weaker, all-has, all_has_itself}
 use Rattle.std.proofs.lemmas.List.{nil_from_length}
-use Rattle.std.proofs.lemmas.Bool.{both_ways, and_parts, and_from, ltb-true, lt-ltb}
+use Rattle.std.proofs.lemmas.Bool.{both_ways, cases_Bool, and_parts, and_from, ltb-true, lt-ltb, not-true}
 use Rattle.marks.specs.Sets.{has, all_below, part_of, PartOf}
 use Rattle.marks.specs.Members.{has_and, has_all_below, has_below}
-use Rattle.marks.specs.Parts.{part_fact, part_test, part_has, part_from_has, part_trans, part_antisym, below_from_part}
-use Rattle.tables.specs.Meaning.{Meaning}
-use Rattle.tables.specs.Holding.{held_by, holders, support_of, closure_of}
-use Rattle.closed.specs.Closed.{ClosureLaws}
+use Rattle.marks.specs.Parts.{part_fact, part_test, part_has, part_from_has, part_trans, part_antisym, below_from_part, part_all_below}
+use Rattle.tables.specs.Meaning.{Meaning, Proper}
+use Rattle.tables.specs.Holding.{held_by, holders, support_of, closure_of, holding_of, unheld}
+use Rattle.closed.specs.Closed.{ClosureLaws, above}
 
 -- ---- what all holders of a set share, mark by mark
 
@@ -121,3 +121,28 @@ module _ (m : Meaning) where
     support_same = support_closure;
     unheld = closure_unheld;
   }
+
+-- ---- sets with a mark above the width
+
+-- where no element passes a test, none is kept
+filter_none : (t : ℕ → Bool) (rows : List ℕ) → AllByRecursion (λ row. t row ≡ false) rows → filter t rows ≡ []
+filter_none t [] a = refl
+filter_none t (r ∷ rows) a = rw (a.0, filter_none t rows a.1)
+
+module _ (m : Meaning) (proper : Proper m) where
+  -- no row has it, so none holds the set
+  not_held : (x : ℕ) → above m.width x ≡ true → (row : ℕ) → Has m.rows row → held_by x row ≡ false
+  not_held x e row k = not-held (cases_Bool (held_by x row))
+    where
+      row_below : row < 2 ^ m.width
+      row_below = subst (λ r. r < 2 ^ m.width) (k.2 0) (proper.within k.0)
+
+      not-held : (held_by x row ≡ true) ⊎ (held_by x row ≡ false) → held_by x row ≡ false
+      not-held (inr f) = f
+      not-held (inl h) =
+          let w = part_trans x row (all_below m.width) (part_fact x row h) (part_all_below m.width row row_below) in
+          absurd (both_ways (part_of x (all_below m.width)) (not-true (part_of x (all_below m.width)) e) (part_test x (all_below m.width) w))
+
+  pub unheld_above : (x : ℕ) → above m.width x ≡ true → holding_of m x ≡ unheld m.width
+  unfolding support_of closure_of
+  unheld_above x e = let none = filter_none (held_by x) m.rows (All-weaker (Has m.rows) (λ r. held_by x r ≡ false) (not_held x e) m.rows (all_has_itself m.rows)) in rw none

@@ -183,43 +183,52 @@ module _ (p : ℕ → Bool) (n : ℕ) where
 
   -- ---- what a node is narrowed to
 
-  pub narrowed_exact : (i o u v : ℕ) → Narrowed p n i o u v → Exact p n i o u v
-  narrowed_exact i o u v w =
-      record {
-        in_all = λ b h z f. fits_has u v z b (w.keeps z f) h;
-        all_in = λ b g. in_by b g (cases_Bool (has u b));
-        out_none = λ b h z f. fits_lacks u v z b (w.keeps z f) h;
-        none_out = λ b l g. out_by b l g (cases_Bool (has v b));
-      }
+  -- what every set that fits has, the new marks in have
+  pub narrowed_all_in : (i o u v b : ℕ) → Narrowed p n i o u v → ((z : ℕ) → Fits p n i o z → has z b ≡ true) → has u b ≡ true
+  narrowed_all_in i o u v b w g = by (cases_Bool (has u b))
     where
       one : Fits p n i o w.tight.some
       one = w.same w.tight.some w.tight.fit
 
-      in_by : (b : ℕ) → ((z : ℕ) → Fits p n i o z → has z b ≡ true) → (has u b ≡ true) ⊎ (has u b ≡ false) → has u b ≡ true
-      in_by b g (inl e) = e
-      in_by b g (inr e) =
+      by : (has u b ≡ true) ⊎ (has u b ≡ false) → has u b ≡ true
+      by (inl e) = e
+      by (inr e) =
           let x = w.tight.without_it b (has_below n w.tight.some b one.below (g w.tight.some one)) e in
           absurd (both_ways (has x.0 b) x.2 (g x.0 (w.same x.0 x.1)))
 
-      out_by : (b : ℕ) → b < n → ((z : ℕ) → Fits p n i o z → has z b ≡ false) → (has v b ≡ true) ⊎ (has v b ≡ false) → has v b ≡ true
-      out_by b l g (inl e) = e
-      out_by b l g (inr e) =
+  -- what none has, the new marks out have
+  pub narrowed_none_out : (i o u v b : ℕ) → Narrowed p n i o u v → b < n → ((z : ℕ) → Fits p n i o z → has z b ≡ false) → has v b ≡ true
+  narrowed_none_out i o u v b w l g = by (cases_Bool (has v b))
+    where
+      by : (has v b ≡ true) ⊎ (has v b ≡ false) → has v b ≡ true
+      by (inl e) = e
+      by (inr e) =
           let x = w.tight.with_it b l e in
           absurd (both_ways (has x.0 b) (g x.0 (w.same x.0 x.1)) x.2)
+
+  pub narrowed_exact : (i o u v : ℕ) → v < 2 ^ n → Narrowed p n i o u v → Exact p n i o u v
+  narrowed_exact i o u v l w =
+      record {
+        in_all = λ b h z f. fits_has u v z b (w.keeps z f) h;
+        all_in = λ b g. narrowed_all_in i o u v b w g;
+        out_below = λ b h. has_below n v b l h;
+        out_none = λ b h z f. fits_lacks u v z b (w.keeps z f) h;
+        none_out = λ b h g. narrowed_none_out i o u v b w h g;
+      }
 
   -- it is narrowed to one node only
   pub narrowed_one : (i o u v u' v' : ℕ) → Narrowed p n i o u v → Narrowed p n i o u' v' → v < 2 ^ n → v' < 2 ^ n → (u ≡ u') × (v ≡ v')
   narrowed_one i o u v u' v' w w' l l' = (
     part_antisym u u' (part_from_has u u' (λ b h. e'.all_in b (e.in_all b h))) (part_from_has u' u (λ b h. e.all_in b (e'.in_all b h))),
-    part_antisym v v' (part_from_has v v' (λ b h. e'.none_out b (has_below n v b l h) (e.out_none b h)))
-        (part_from_has v' v (λ b h. e.none_out b (has_below n v' b l' h) (e'.out_none b h))),
+    part_antisym v v' (part_from_has v v' (λ b h. e'.none_out b (e.out_below b h) (e.out_none b h)))
+        (part_from_has v' v (λ b h. e.none_out b (e'.out_below b h) (e'.out_none b h))),
   )
     where
       e : Exact p n i o u v
-      e = narrowed_exact i o u v w
+      e = narrowed_exact i o u v l w
 
       e' : Exact p n i o u' v'
-      e' = narrowed_exact i o u' v' w'
+      e' = narrowed_exact i o u' v' l' w'
 
   -- where some set fits, it is narrowed to what all that fit have, and what none has
   pub narrowed_defined : (i o z : ℕ) → Fits p n i o z → Narrowed p n i o (in_every n (fitting p n i o)) (in_none n (fitting p n i o))

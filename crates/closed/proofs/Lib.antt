@@ -8,3 +8,4 @@ pub mod Growing
 pub mod Closing
 pub mod Narrowing
 pub mod Bounding
+pub mod Clashes

@@ -174,3 +174,7 @@ pub narrow_exact : (q : Query) (i o : ℕ) → dead (listed q) q.table.width i o
     → Narrowed (listed q) q.table.width i o (narrow_in q i o) (narrow_out q i o)
 unfolding narrow_in narrow_out
 narrow_exact q i o e = let x = alive_some (listed q) q.table.width i o e in narrowed_defined (listed q) q.table.width i o x.0 x.1
+
+pub narrow_out_below : (q : Query) (i o : ℕ) → narrow_out q i o < 2 ^ q.table.width
+unfolding narrow_out
+narrow_out_below q i o = in_none_below q.table.width _

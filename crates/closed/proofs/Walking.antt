@@ -9,7 +9,7 @@ use Rattle.marks.specs.SetOrder.{before_irrefl, before_trans}
 use Rattle.closed.specs.Families.{Listed, Fits, Agree, Turn, Turns, First}
 use Rattle.closed.specs.Walks.{Tight, Narrowed, Free, Done, Reached}
 use Rattle.closed.proofs.Fitting.{with_here, with_cases, fits_listed, fits_has, fits_lacks, fits_decided, fits_root}
-use Rattle.closed.proofs.Fitting.{fits_with, fits_with_back, fits_with_has, fits_without, narrowed_exact}
+use Rattle.closed.proofs.Fitting.{fits_with, fits_with_back, fits_with_has, fits_without, narrowed_all_in, narrowed_none_out}
 
 -- ---- agreement
 
@@ -81,10 +81,10 @@ module _ (p : ℕ → Bool) (n : ℕ) where
   -- ---- narrowing keeps what is decided
 
   pub narrowed_in : (i o u v b : ℕ) → Narrowed p n i o u v → has i b ≡ true → has u b ≡ true
-  narrowed_in i o u v b w h = (narrowed_exact p n i o u v w).all_in b (λ z f. fits_has p n i o z b f h)
+  narrowed_in i o u v b w h = narrowed_all_in p n i o u v b w (λ z f. fits_has p n i o z b f h)
 
   pub narrowed_out : (i o u v b : ℕ) → Narrowed p n i o u v → b < n → has o b ≡ true → has v b ≡ true
-  narrowed_out i o u v b w l h = (narrowed_exact p n i o u v w).none_out b l (λ z f. fits_lacks p n i o z b f h)
+  narrowed_out i o u v b w l h = narrowed_none_out p n i o u v b w l (λ z f. fits_lacks p n i o z b f h)
 
   pub narrowed_decided : (i o u v b : ℕ) → Narrowed p n i o u v → b < n → (has i b || has o b) ≡ true → (has u b || has v b) ≡ true
   narrowed_decided i o u v b w l d =

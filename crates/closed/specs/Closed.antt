@@ -1,5 +1,5 @@
 -- Closed sets of a table, and the list of those that are wanted.
-use Rattle.std.specs.Prelude.{◌≡◌, ℕ, ◌^◌, ◌<◌, ◌≤◌, Bool, true, not, ◌&&◌, ◌||◌, List, [], ◌∷◌, Decides, Option, ◌==◌, nat_le}
+use Rattle.std.specs.Prelude.{◌≡◌, ℕ, ◌^◌, ◌<◌, ◌≤◌, Bool, true, not, ◌&&◌, ◌||◌, ◌⊎◌, ◌↔◌, List, [], ◌∷◌, Decides, Option, Err, Result, IsOk, ◌==◌, nat_le}
 use Rattle.std.specs.List.{ContainsAt as Has}
 use Rattle.marks.specs.declared.refusal.Reason.TheVariants.{Clash, DeadEnd}
 use Rattle.marks.specs.declared.refusal.Refusal.{Refusal}
@@ -8,7 +8,7 @@ use Rattle.marks.specs.Refusals.{unplaced, due_if, first_due}
 use Rattle.marks.specs.Sets.{has, no_marks, all_below, both, part_of, PartOf}
 use Rattle.tables.specs.Meaning.{Meaning}
 use Rattle.tables.specs.Holding.{support_of, closure_of}
-use Rattle.closed.specs.Families.{list_of, Pairwise, Turns, turns, dead, fitting, in_every, in_none}
+use Rattle.closed.specs.Families.{list_of, Pairwise, Fits, Turns, turns, dead, fitting, in_every, in_none}
 
 -- What a list is made of: the meaning of a table, which sets a limit allows, and the least support.
 pub record Query : Type 0 where
@@ -39,6 +39,10 @@ the_list q = list_of (listed q) q.table.width
 abbrev pub closure_passes : (ℕ → Bool) → ℕ → ℕ → ℕ → ℕ → Bool
 closure_passes allowed least o support closure = (nat_le least support && allowed closure) && both closure o == no_marks
 
+-- a set that has a mark above the width
+abbrev pub above : ℕ → ℕ → Bool
+above n x = not (part_of x (all_below n))
+
 -- ---- laws
 
 -- Closure and support in a table, for sets of marks up to its width where one is asked for: which marks a closure has; it holds the set; it grows with the set and is closed;
@@ -62,10 +66,6 @@ pub record ListLaws (q : Query) : Type 0 where
 
 -- ---- narrowing a node
 
--- a set that has a mark above the width
-abbrev pub above : ℕ → ℕ → Bool
-above n x = not (part_of x (all_below n))
-
 -- marks that cannot be put in and put out: the two sets share one, or either has one above the width
 abbrev pub clash : ℕ → ℕ → ℕ → Bool
 clash n i o = (not (both i o == no_marks) || above n i) || above n o
@@ -84,3 +84,15 @@ narrow_in q i o = in_every q.table.width (fitting (listed q) q.table.width i o)
 
 unfoldable pub narrow_out : Query → ℕ → ℕ → ℕ
 narrow_out q i o = in_none q.table.width (fitting (listed q) q.table.width i o)
+
+-- ---- the refusals of narrowing, said of marks and of sets that fit
+
+-- a mark is both put in and put out, or it is one of these and above the width
+abbrev pub Clashing : ℕ → ℕ → ℕ → Type 0
+Clashing n i o = (b : ℕ) × (((has i b ≡ true) × (has o b ≡ true)) ⊎ ((n ≤ b) × ((has i b || has o b) ≡ true)))
+
+-- What narrowing answers: CLASH exactly if the marks clash; DEAD END exactly if they do not and no listed set fits; a node exactly if they do not and some listed set fits.
+pub record Refuses {A : Type 0} (q : Query) (i o : ℕ) (r : Result A Refusal) : Type 0 where
+  pub clash : (r ≡ Err (unplaced Clash)) ↔ Clashing q.table.width i o
+  pub dead_end : (r ≡ Err (unplaced DeadEnd)) ↔ ((Clashing q.table.width i o → ⊥) × ((x : ℕ) → Fits (listed q) q.table.width i o x → ⊥))
+  pub narrowed : IsOk r ↔ ((Clashing q.table.width i o → ⊥) × ((x : ℕ) × Fits (listed q) q.table.width i o x))

@@ -21,6 +21,7 @@ pub record Narrowed (p : ℕ → Bool) (n i o u v : ℕ) : Type 0 where
 pub record Exact (p : ℕ → Bool) (n i o u v : ℕ) : Type 0 where
   pub in_all : (b : ℕ) → has u b ≡ true → (z : ℕ) → Fits p n i o z → has z b ≡ true
   pub all_in : (b : ℕ) → ((z : ℕ) → Fits p n i o z → has z b ≡ true) → has u b ≡ true
+  pub out_below : (b : ℕ) → has v b ≡ true → b < n
   pub out_none : (b : ℕ) → has v b ≡ true → (z : ℕ) → Fits p n i o z → has z b ≡ false
   pub none_out : (b : ℕ) → b < n → ((z : ℕ) → Fits p n i o z → has z b ≡ false) → has v b ≡ true
 

@@ -3,3 +3,10 @@ pub mod Narrows
 pub mod Descending
 pub mod Listing
 pub mod Turns
+pub mod Handing
+pub mod Standing
+pub mod ListPart
+pub mod CountPart
+pub mod BoundPart
+pub mod Lawfulness
+pub mod Recording

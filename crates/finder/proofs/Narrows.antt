@@ -1,10 +1,11 @@
 -- What narrowing answers.
-use Rattle.std.proofs.Common.{◌≡◌, ℕ, ◌^◌, ◌<◌, ◌≤◌, true, false, Bool, not, [], ◌∷◌, get_or, Some, None, Ok, Err, Result, IfOk, refl, sym, ap, ◌∙◌, subst, arith}
-use Rattle.std.proofs.lemmas.Bool.{or_parts, not-false, not_from_true, not_from_false}
+use Rattle.std.proofs.Common.{◌≡◌, ℕ, ◌^◌, ◌<◌, ◌≤◌, true, false, Bool, not, [], ◌∷◌, get_or, Some, None, Ok, Err, Option, Result, IfOk, refl, sym, ap, ◌∙◌, subst, arith}
+use Rattle.std.specs.Option.{option_map_or}
+use Rattle.std.proofs.lemmas.Bool.{both_ways, or_parts, not-false, not_from_true, not_from_false}
 use Rattle.marks.specs.declared.refusal.Reason.TheVariants.{Clash, DeadEnd}
 use Rattle.marks.specs.Numbers.{most_marks}
 use Rattle.marks.specs.declared.refusal.Refusal.{Refusal}
-use Rattle.marks.specs.Refusals.{unplaced, due_if, first_due, Answers}
+use Rattle.marks.specs.Refusals.{number_of, unplaced, due_if, first_due, Answers}
 use Rattle.marks.proofs.Due.{none_due}
 use Rattle.marks.specs.Sets.{with_bit, picked}
 use Rattle.marks.specs.Parts.{part_fact, below_from_part}
@@ -13,10 +14,11 @@ use Rattle.limits.specs.Limits.{AllowsParts}
 use Rattle.tables.specs.Holding.{support_of, closure_of, holding_of}
 use Rattle.closed.specs.Families.{dead}
 use Rattle.closed.specs.Walks.{Exact}
-use Rattle.closed.specs.Closed.{Query, listed, clash, above, narrow_refusal, narrow_in, narrow_out}
+use Rattle.closed.specs.Closed.{Query, listed, clash, above, Clashing, Refuses, narrow_refusal, narrow_in, narrow_out}
 use Rattle.closed.proofs.Closing.{support_closure}
-use Rattle.closed.proofs.Fitting.{narrowed_exact}
-use Rattle.closed.proofs.Narrowing.{dead_lives, narrow_by_closures, narrow_exact}
+use Rattle.closed.proofs.Clashes.{clash_is}
+use Rattle.closed.proofs.Fitting.{narrowed_exact, alive_some, dead_none}
+use Rattle.closed.proofs.Narrowing.{dead_lives, narrow_by_closures, narrow_exact, narrow_out_below}
 use Rattle.finder.specs.declared.narrowing.Node.{Node}
 use Rattle.finder.specs.declared.tally.Tally.{Tally}
 use Rattle.finder.specs.Nodes.{node_of, passes}
@@ -101,5 +103,54 @@ module _ (q : Query) (i o : ℕ) where
       → IfOk r (λ node. Exact (listed q) q.table.width i o node.ins.bits node.outs.bits)
   exact_node (Ok node) e =
       subst (λ (n : Node). Exact (listed q) q.table.width i o n.ins.bits n.outs.bits) (sym e.1)
-      (narrowed_exact (listed q) q.table.width i o (narrow_in q i o) (narrow_out q i o) (narrow_exact q i o (accepted_parts e.0).1))
+      (narrowed_exact (listed q) q.table.width i o (narrow_in q i o) (narrow_out q i o) (narrow_out_below q i o) (narrow_exact q i o (accepted_parts e.0).1))
   exact_node (Err refusal) e = tt
+
+-- the number of the refusal that is answered, and 0 where none is
+abbrev answered : {A : Type 0} → Result A Refusal → ℕ
+answered (Ok x) = 0
+answered (Err refusal) = number_of refusal.reason
+
+module _ {A : Type 0} (P : A → Type 0) (q : Query) (i o : ℕ) where
+  abbrev failed : Refusal → Result A Refusal
+  failed refusal = Err refusal
+
+  fair : clash q.table.width i o ≡ false → Clashing q.table.width i o → ⊥
+  fair e m = both_ways (clash q.table.width i o) e ((clash_is q.table.width i o).1 m)
+
+  -- the refusal that is due is the one that is answered
+  is_due : (due refusal : Refusal) → Some due ≡ Some refusal → failed refusal ≡ failed due
+  is_due due refusal e = let same : refusal ≡ due = cc in ap failed same
+
+  -- what is answered, by the two tests
+  refuses_by : (c d : Bool) → clash q.table.width i o ≡ c → dead (listed q) q.table.width i o ≡ d → (r : Result A Refusal)
+      → Answers (first_due (due_if c (unplaced Clash) ∷ due_if d (unplaced DeadEnd) ∷ [])) P r → Refuses q i o r
+  refuses_by true d e f (Ok x) a = absurd (none_due (Some (unplaced Clash)) (unplaced Clash) a.0 refl)
+  refuses_by true d e f (Err refusal) a =
+      let m = (clash_is q.table.width i o).0 e in
+      let is : answered (failed refusal) ≡ 19 = ap (λ (x : Option Refusal). option_map_or (λ r. number_of r.reason) x 0) (sym a) in
+      record {
+        clash = (λ z. m, λ z. is_due _ refusal a);
+        dead_end = (λ z. absurd (let n : answered (failed refusal) ≡ 20 = ap answered z in omega arith), λ g. absurd (g.0 m));
+        narrowed = (λ z. absurd (both_ways false refl z), λ g. absurd (g.0 m));
+      }
+  refuses_by false true e f (Ok x) a = absurd (none_due (Some (unplaced DeadEnd)) (unplaced DeadEnd) a.0 refl)
+  refuses_by false true e f (Err refusal) a =
+      let is : answered (failed refusal) ≡ 20 = ap (λ (x : Option Refusal). option_map_or (λ r. number_of r.reason) x 0) (sym a) in
+      record {
+        clash = (λ z. absurd (let n : answered (failed refusal) ≡ 19 = ap answered z in omega arith), λ m. absurd (fair e m));
+        dead_end = (λ z. (fair e, λ x. dead_none (listed q) q.table.width i o x f), λ g. is_due _ refusal a);
+        narrowed = (λ z. absurd (both_ways false refl z), λ g. absurd (dead_none (listed q) q.table.width i o g.1.0 f g.1.1));
+      }
+  refuses_by false false e f (Err refusal) a = absurd (none_due None refusal refl a)
+  refuses_by false false e f (Ok x) a =
+      let fits = alive_some (listed q) q.table.width i o f in
+      record {
+        clash = (λ z. absurd (let n : 0 ≡ 19 = ap answered z in omega arith), λ m. absurd (fair e m));
+        dead_end = (λ z. absurd (let n : 0 ≡ 20 = ap answered z in omega arith), λ g. absurd (g.1 fits.0 fits.1));
+        narrowed = (λ z. (fair e, fits), λ g. refl);
+      }
+
+  pub refuses : (r : Result A Refusal) → Answers (narrow_refusal q i o) P r → Refuses q i o r
+  unfolding narrow_refusal
+  refuses r a = refuses_by (clash q.table.width i o) (dead (listed q) q.table.width i o) refl refl r a

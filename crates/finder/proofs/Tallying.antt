@@ -12,10 +12,13 @@ use Rattle.marks.specs.Members.{has_none, has_below}
 use Rattle.marks.specs.Parts.{part_fact, part_test, part_has, part_trans, has_with, has_without, part_or_left, with_part}
 use Rattle.tables.specs.declared.holding.Holding.{Holding}
 use Rattle.tables.specs.Holding.{held_by, holding_of, unheld, joined, ending_after}
-use Rattle.tables.specs.Meaning.{Meaning, count_of}
+use Rattle.tables.specs.Meaning.{Meaning, Proper, count_of}
 use Rattle.tables.proofs.Passing.{holding_none, holding_more}
 use Rattle.finder.specs.declared.tally.Tally.{Tally}
-use Rattle.finder.specs.Tallies.{no_holding, for_each_mark, tally_of, joined_each, noted}
+use Rattle.closed.specs.Closed.{above}
+use Rattle.closed.proofs.Closing.{unheld_above}
+use Rattle.closed.proofs.Clashes.{above_mark, mark_above}
+use Rattle.finder.specs.Tallies.{no_holding, for_each_mark, tally_of, joined_each, noted, AboveWidth}
 
 -- ---- one record for each mark
 
@@ -166,3 +169,25 @@ module _ (m : Meaning) (s : ℕ) where
 pub tally_with : (m : Meaning) (s b : ℕ) → b < most_marks → get_or (tally_of m s).marks b no_holding ≡ holding_of m (with_bit s b)
 unfolding tally_of
 tally_with m s b h = at_mark (λ b. holding_of m (with_bit s b)) b h
+
+-- ---- marks above the width
+
+module _ (m : Meaning) (proper : Proper m) (s : ℕ) where
+  -- a set with such a mark keeps it when one more is added
+  still_above : (b : ℕ) → above m.width s ≡ true → above m.width (with_bit s b) ≡ true
+  still_above b e = let a = above_mark m.width s e in mark_above m.width (with_bit s b) a.0 a.1 (part_has s (with_bit s b) a.0 (part_or_left s (2 ^ b)) a.2)
+
+  now_above : (b : ℕ) → m.width ≤ b → above m.width (with_bit s b) ≡ true
+  now_above b l = mark_above m.width (with_bit s b) b l (has_with s b b ∙ or_right (has s b) (eqb b b) (eq-eqb b b refl))
+
+  pub tally_above : (t : Tally) → t ≡ tally_of m s → AboveWidth m.width s t
+  unfolding tally_of
+  tally_above t is =
+      record {
+        own = λ e. ap (λ (t : Tally). t.own) is ∙ unheld_above m proper s e;
+        with_any = λ e b h. at b h ∙ unheld_above m proper (with_bit s b) (still_above b e);
+        with_above = λ b l h. at b h ∙ unheld_above m proper (with_bit s b) (now_above b l);
+      }
+    where
+      at : (b : ℕ) → b < most_marks → get_or t.marks b no_holding ≡ holding_of m (with_bit s b)
+      at b h = ap (λ (t : Tally). get_or t.marks b no_holding) is ∙ tally_with m s b h

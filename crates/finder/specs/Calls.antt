@@ -16,6 +16,10 @@ use Rattle.finder.specs.Found.{how_many, last_at_place, opened_at_end, written, 
 abbrev pub begun : {T W : Type 0} → T → W → Support → Finder T W
 begun table limit support = record { query = record { table = table; limit = limit; support = support }; last = None }
 
+-- the finder as it was after begin
+abbrev pub rewound : {T W : Type 0} → Finder T W → Finder T W
+rewound f = begun f.query.table f.query.limit f.query.support
+
 -- the slot that held `before` and then holds `after` has the finder's last record
 abbrev pub Shows : {T W : Type 0} → Finder T W → List ℕ → List ℕ → Type 0
 Shows f before after = (last : Last) × (f.last ≡ Some last) × (after ≡ written last.found before)

@@ -5,4 +5,5 @@ pub mod Found
 pub mod Calls
 pub mod Runs
 pub mod Worked
+pub mod Transcripts
 pub mod Descents

@@ -3,12 +3,13 @@ use Rattle.std.specs.Prelude.{◌≡◌, ℕ, ◌+◌, ◌-◌, ◌*◌, ◌<◌
 use Rattle.std.specs.List.{range_with_len, ContainsAt as Has, AllByRecursion}
 use Rattle.marks.specs.declared.refusal.Reason.TheVariants.{ShortSlot, NothingYet}
 use Rattle.marks.specs.declared.refusal.Refusal.{Refusal}
+use Rattle.marks.specs.Orders.{Before}
 use Rattle.marks.specs.Refusals.{unplaced}
 use Rattle.tables.specs.Holding.{support_of}
 use Rattle.found.specs.declared.record.Record.{Record}
 use Rattle.found.specs.Records.{record_at, record_length}
-use Rattle.closed.specs.Families.{turn_count}
-use Rattle.closed.specs.Trees.{Tree, node_tree, nodes, upto_leaf}
+use Rattle.closed.specs.Families.{Pairwise, turn_count}
+use Rattle.closed.specs.Trees.{Tree, node_tree, nodes, upto_leaf, TreeLaw}
 use Rattle.closed.specs.Closed.{Query, listed, the_list}
 use Rattle.finder.specs.declared.step.Step.{Step}
 use Rattle.finder.specs.declared.step.Step.TheVariants.{Found, End}
@@ -50,6 +51,7 @@ shown (e ∷ entries) = shown_by e ++ shown entries
 -- the records show the first sets of the list, each once, in list order, with their supports and with their places as ordinals
 pub record FirstSets (q : Query) (out : List Record) : Type 0 where
   pub sets : map (λ r. r.set.bits) out ≡ take (length out) (the_list q)
+  pub once_in_order : Pairwise Before (map (λ r. r.set.bits) out)
   pub supports : AllByRecursion (λ r. r.support ≡ support_of q.table r.set.bits) out
   pub ordinals : map (λ r. r.ordinal) out ≡ range_with_len 1 (length out)
 
@@ -89,6 +91,10 @@ pub record ListPart (q : Query) (entries : List Entry) : Type 0 where
 -- the nodes of the list's tree, in the order in which they are opened
 abbrev pub nodes_of : Query → List Tree
 nodes_of q = nodes (node_tree (listed q) q.table.width)
+
+-- what the tree says of the list: its leaves, how many nodes there are up to each and in all, and that no node below another is a dead end
+abbrev pub ListTree : Query → Type 0
+ListTree q = TreeLaw (listed q) q.table.width
 
 -- End carries the numbers of the last record again, or 0 and 1 where there is none; and all nodes are then opened
 pub record EndTells (q : Query) (out : List Record) (ordinal opened : ℕ) : Type 0 where

@@ -1,11 +1,12 @@
 -- The tally of a set.
-use Rattle.std.specs.Prelude.{ℕ, cond, List, map, slice_index_or}
+use Rattle.std.specs.Prelude.{◌≡◌, ℕ, ◌<◌, ◌≤◌, true, cond, List, map, slice_index_or}
 use Rattle.std.specs.List.{range_with_len}
 use Rattle.marks.specs.Numbers.{most_marks}
 use Rattle.marks.specs.Sets.{has, no_marks, with_bit}
 use Rattle.tables.specs.declared.holding.Holding.{Holding}
 use Rattle.tables.specs.Meaning.{Meaning}
-use Rattle.tables.specs.Holding.{held_by, holding_of, joined}
+use Rattle.tables.specs.Holding.{held_by, holding_of, unheld, joined}
+use Rattle.closed.specs.Closed.{above}
 use Rattle.finder.specs.declared.tally.Tally.{Tally}
 
 -- what stands past the end of a list of holdings
@@ -27,3 +28,9 @@ joined_each row marks = for_each_mark (λ b. cond (has row b) (joined row (slice
 -- a charge that holds the set joins its record and those of its marks
 abbrev pub noted : ℕ → ℕ → Tally → Tally
 noted s row t = cond (held_by s row) (record { own = joined row t.own; marks = joined_each row t.marks }) t
+
+-- What the tally of s says of marks above the width n, which no charge has: where s has one, or the added mark is one, the support is 0 and the closure all marks up to the width.
+pub record AboveWidth (n s : ℕ) (t : Tally) : Type 0 where
+  pub own : above n s ≡ true → t.own ≡ unheld n
+  pub with_any : above n s ≡ true → (b : ℕ) → b < most_marks → slice_index_or t.marks b no_holding ≡ unheld n
+  pub with_above : (b : ℕ) → n ≤ b → b < most_marks → slice_index_or t.marks b no_holding ≡ unheld n

@@ -1,6 +1,9 @@
 // The finder: hands out the sets of a list, one after another.
 ghost use Rattle.std.specs.Prelude.{◌≡◌};
-ghost use Rattle.finder.specs.Calls.{begun, NextDone, LookDone};
+ghost use Rattle.closed.specs.Closed.{ListLaws};
+ghost use Rattle.finder.specs.Calls.{begun, rewound, query_of, NextDone, LookDone};
+ghost use Rattle.finder.specs.Runs.{ListTree};
+ghost use Rattle.finder.specs.Worked.{EveryRunLawful};
 
 pub mod descent;
 
@@ -25,11 +28,14 @@ pub struct Finder<T, W> {
     last: Option<Last>,
 }
 
-// Three of the calls are for this crate alone, until the law of all runs stands on a call that makes them all.
 impl<T: Table, W: Limit> Finder<T, W> {
     /// A finder that has handed out nothing and opened nothing.
+    /// Whatever calls are then made of it one after another, and whichever of them are refused, what they tell obeys the law of runs, which `specs/Runs.antt` states.
     pub fn begin(table: T, limit: W, support: Support) -> Finder<T, W>
         ensures value { result ≡ begun table limit support }
+        ensures list { ListLaws (query_of T.Table.meaning W.Limit.allowed result) }
+        ensures tree { ListTree (query_of T.Table.meaning W.Limit.allowed result) }
+        ensures lawful { EveryRunLawful T.Table.meaning W.Limit.allowed result }
     {
         Finder {
             query: Query {
@@ -41,9 +47,10 @@ impl<T: Table, W: Limit> Finder<T, W> {
         }
     }
 
-    /// Goes on to the next set of the list and writes its record into the first bytes of the slot; with no set left it answers End and leaves the slot.
+    /// Goes on to the next set of the list and writes its record into the first bytes of the slot.
+    /// With no set left it answers End, with the ordinal and opened number of the last record, or with 0 and 1 for an empty list; the slot is then as it was.
     /// Refused: SHORT SLOT if the slot is shorter than a record, also where End is due; finder and slot are then as they were.
-    pub(crate) fn next(&mut self, slot: &mut [u8]) -> Result<Step, Refusal>
+    pub fn next(&mut self, slot: &mut [u8]) -> Result<Step, Refusal>
         ensures { NextDone T.Table.meaning W.Limit.allowed self.old slot.old result slot.new self.new }
     {
         if slot.len() < RECORD_BYTES {
@@ -72,7 +79,7 @@ impl<T: Table, W: Limit> Finder<T, W> {
 
     /// Writes the last record again, also after End.
     /// Refused: SHORT SLOT if the slot is shorter than a record; NOTHING YET if no set came since begin or the last rewind. The slot is then as it was.
-    pub(crate) fn look(&self, slot: &mut [u8]) -> Result<(), Refusal>
+    pub fn look(&self, slot: &mut [u8]) -> Result<(), Refusal>
         ensures { LookDone T.Table.meaning W.Limit.allowed self.now slot.old result slot.new }
     {
         if slot.len() < RECORD_BYTES {
@@ -83,8 +90,8 @@ impl<T: Table, W: Limit> Finder<T, W> {
     }
 
     /// Goes back to where the finder was after begin.
-    pub(crate) fn rewind(&mut self)
-        ensures { self.new ≡ begun self.old.query.table self.old.query.limit self.old.query.support }
+    pub fn rewind(&mut self)
+        ensures { self.new ≡ rewound self.old }
     {
         self.last = None;
     }

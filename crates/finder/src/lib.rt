@@ -5,8 +5,10 @@ pub mod finder;
 pub mod narrowing;
 pub mod step;
 pub mod tally;
+pub mod transcripts;
 
 pub use finder::Finder;
 pub use narrowing::{Node, narrow};
 pub use step::Step;
 pub use tally::Tally;
+pub use transcripts::{Move, Told, transcript};

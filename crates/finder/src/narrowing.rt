@@ -2,7 +2,7 @@
 ghost use Rattle.std.specs.Prelude.{◌≡◌, not, IfOk, slice_index_or};
 ghost use Rattle.marks.specs.Refusals.{Answers};
 ghost use Rattle.marks.specs.Sets.{picked};
-ghost use Rattle.closed.specs.Closed.{query, listed, clash, ListLaws, narrow_refusal};
+ghost use Rattle.closed.specs.Closed.{query, listed, clash, ListLaws, Refuses, narrow_refusal};
 ghost use Rattle.closed.specs.Walks.{Exact};
 ghost use Rattle.finder.specs.Asked.{asked};
 ghost use Rattle.finder.specs.Nodes.{node_of, passes};
@@ -88,6 +88,7 @@ pub fn narrow<T: Table, W: Limit>(
 ) -> Result<Node, Refusal>
     ensures answer { Answers (narrow_refusal (query (T.Table.meaning table.now) (W.Limit.allowed limit.now) support.number) ins.bits outs.bits) (λ node. node ≡ node_of (query (T.Table.meaning table.now) (W.Limit.allowed limit.now) support.number) ins.bits outs.bits) result }
     ensures exact { IfOk result (λ node. Exact (listed (query (T.Table.meaning table.now) (W.Limit.allowed limit.now) support.number)) (T.Table.meaning table.now).width ins.bits outs.bits node.ins.bits node.outs.bits) }
+    ensures refusals { Refuses (query (T.Table.meaning table.now) (W.Limit.allowed limit.now) support.number) ins.bits outs.bits result }
     ensures laws { ListLaws (query (T.Table.meaning table.now) (W.Limit.allowed limit.now) support.number) }
 {
     let query = Query {

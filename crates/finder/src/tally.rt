@@ -2,7 +2,7 @@
 ghost use Rattle.std.specs.Prelude.{◌≡◌, slice_index_or};
 ghost use Rattle.marks.specs.Numbers.{bit_of};
 ghost use Rattle.closed.specs.Closed.{ClosureLaws};
-ghost use Rattle.finder.specs.Tallies.{no_holding, tally_of, joined_each, noted};
+ghost use Rattle.finder.specs.Tallies.{no_holding, tally_of, joined_each, noted, AboveWidth};
 
 use marks::{Charge, MARKS, Mark, MarkSet};
 use tables::{Holding, Table};
@@ -24,9 +24,10 @@ fn join_each(marks: &mut [Holding; MARKS], row: MarkSet)
 }
 
 impl Tally {
-    /// The tally of `set` in `table`, from one pass over its charges. The set may have marks above the width.
+    /// The tally of `set` in `table`, from one pass over its charges. The set may have marks above the width; no charge holds it then.
     pub fn of<T: Table>(table: &T, set: MarkSet) -> Tally
         ensures value { result ≡ tally_of (T.Table.meaning table.now) set.bits }
+        ensures above { AboveWidth (T.Table.meaning table.now).width set.bits result }
         ensures laws { ClosureLaws (T.Table.meaning table.now) }
     {
         let none = Holding::unheld(table.width());

@@ -7,7 +7,7 @@ use std::test::Fail;
 use tables::{Choice, Columns, Packed, Reverse, Selection, Table, Window, turn};
 
 // The charges 1 2 4, 1 2, 2 3, 1 2 4 and 3 5, at width 5.
-const CHARGES: [u8; 20] = [
+pub const CHARGES: [u8; 20] = [
     11, 0, 0, 0, 3, 0, 0, 0, 6, 0, 0, 0, 11, 0, 0, 0, 20, 0, 0, 0,
 ];
 

@@ -9,6 +9,8 @@ mod house_limits;
 mod layers;
 pub mod ledger;
 #[cfg(test)]
+mod narrowing;
+#[cfg(test)]
 mod numbers;
 #[cfg(test)]
 mod packed;

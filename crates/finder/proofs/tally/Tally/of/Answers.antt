@@ -1,8 +1,8 @@
 use Rattle.std.proofs.Common.{ap, ◌∙◌}
 use Rattle.closed.proofs.Closing.{closure_laws}
-use Rattle.tables.proofs.Passing.{passing_start, passing_more}
+use Rattle.tables.proofs.Passing.{passing_start, passing_more, passing_all}
 use Rattle.finder.specs.Tallies.{tally_of, noted}
-use Rattle.finder.proofs.Tallying.{tally_none, tally_more}
+use Rattle.finder.proofs.Tallying.{tally_none, tally_more, tally_above}
 use Rattle.finder.proofs.tally.Tally.of.Goals as goal
 
 pub loop-charge-init : goal.loop-charge-init
@@ -22,3 +22,10 @@ loop-charge-preserved g c =
 
 pub returns-clause-laws : goal.returns-clause-laws
 returns-clause-laws g c = closure_laws (g.T.Table.meaning c.args.table.now)
+
+pub returns-clause-above : goal.returns-clause-above
+returns-clause-above g c =
+    let m = g.T.Table.meaning c.args.table.now in
+    let s = c.args.set.bits in
+    tally_above m (g.met.T.Table.proper c.args.table.now) s c.loop-charge.tally
+    (passing_all (λ m. tally_of m s) m c.loop-charge.yielded c.loop-charge.charge-iterator c.in-None.ensures.steps.0 c.loop-charge.tally c.loop-charge.invariant)

@@ -1,6 +1,10 @@
 // Times one tally and one narrowing over the longest and widest table, packed and as columns. What they find goes to standard output; how long they take, which varies, to standard error.
 #![tactic(auto)]
 
+ghost use Rattle.std.specs.Prelude.{◌≡◌, ◌*◌, length, IfOk};
+ghost use Rattle.marks.specs.Numbers.{most_charges};
+ghost use Rattle.tables.specs.Packed.{row_bytes};
+
 use finder::{Tally, narrow};
 use limits::Size;
 use marks::{MOST_CHARGES, MOST_MARKS, MarkSet, Refusal, Support, Width};
@@ -29,7 +33,9 @@ impl From<io::Error> for Fault {
 }
 
 // The bytes of the longest packed table: its rows are all unlike, and have about half of the marks each.
-fn rows(heap: Global) -> io::Result<Vec<u8>> {
+fn rows(heap: Global) -> io::Result<Vec<u8>>
+    ensures { IfOk result (λ bytes. length bytes.items ≡ row_bytes * most_charges) }
+{
     let mut bytes: Vec<u8> = Vec::new(heap);
     for number in 0..MOST_CHARGES {
         let row = number.wrapping_mul(2_654_435_761);
@@ -39,11 +45,14 @@ fn rows(heap: Global) -> io::Result<Vec<u8>> {
 }
 
 // Words of the longest and widest columns, to be filled: 1,024 for each of 32 marks.
-fn words(heap: Global) -> io::Result<Vec<u64>> {
+fn words(heap: Global) -> io::Result<Vec<u64>>
+    ensures { IfOk result (λ words. length words.items ≡ 32_768) }
+{
     Ok(vec![in heap; 0; 32_768]?)
 }
 
-// Tallies the empty set and narrows the root, so that every charge counts. A mark is put out where fewer than half of the charges hold it.
+// Tallies the empty set and narrows the root, so that every charge counts. A mark is put out where fewer than half of the charges hold it. What is found is proved by the contracts of `Tally::of` and
+// `narrow`; no contract can say what is printed, nor how long a call takes.
 fn measure<T: Table>(rt: &HostRuntime, name: &str, table: &T) -> Result<(), Fault> {
     let half = Support::new(u64::from(MOST_CHARGES / 2))?;
     let none = MarkSet::empty();
@@ -53,8 +62,8 @@ fn measure<T: Table>(rt: &HostRuntime, name: &str, table: &T) -> Result<(), Faul
     let start = Instant::now(rt)?;
     let node = narrow(table, &Size::new(u64::from(MOST_MARKS)), half, none, none)?;
     let narrowed = start.elapsed(rt)?.as_micros();
-    let often = MarkSet::up_to(table.width()).filter(|mark| tally.with(mark).support()
-        >= half.get());
+    let all = MarkSet::up_to(table.width());
+    let often = all.filter(|mark| tally.with(mark).support() >= half.get());
     let (support, often) = (tally.own().support(), often.size());
     println!(rt; "{name}: tally support {support}, {often} marks in half of the charges")?;
     let (support, ins, outs) = (node.support, node.ins.size(), node.outs.size());

@@ -1,8 +1,7 @@
 -- Marks that clash, told one by one.
-use Rattle.std.proofs.Common.{◌≡◌, ℕ, zero, suc, ◌^◌, ◌<◌, ◌≤◌, Bool, true, false, not, ◌&&◌, ◌||◌, eqb, ltb, ◌⊎◌, Decides, sym, ap, ◌∙◌, inl, inr, ⊎_elim, arith, pow_pos}
-use lib.Bits.{bit_and}
-use Rattle.std.proofs.lemmas.Bool.{both_ways, cases_Bool, cases_lt, and_parts, and_from, or_left, or_right, or_cases, lt-ltb, ltb-true, eqb-true, not-true, not-false, not_from_true, not_from_false, eq-eqb}
-use Rattle.marks.specs.Sets.{has, no_marks, all_below, both, part_of, PartOf, Highest}
+use Rattle.std.proofs.Common.{◌≡◌, ℕ, zero, suc, ◌^◌, ◌<◌, ◌≤◌, Bool, true, false, not, ◌||◌, eqb, ◌⊎◌, Decides, sym, ap, ◌∙◌, inl, inr, ⊎_elim, arith, pow_pos}
+use Rattle.std.proofs.lemmas.Bool.{both_ways, cases_Bool, cases_lt, and_parts, and_from, or_left, or_right, or_cases, ltb-true, eqb-true, not-true, not_from_false, eq-eqb}
+use Rattle.marks.specs.Sets.{has, no_marks, all_below, both, part_of, Highest}
 use Rattle.marks.specs.Members.{has_and, has_none, has_all_below}
 use Rattle.marks.specs.Parts.{part_fact, part_test, part_has, part_all_below}
 use Rattle.marks.specs.Sizes.{leading_highest}

@@ -13,7 +13,7 @@ use Rattle.finder.proofs.BoundPart.{bound_part}
 
 module _ {T W : Type 0} (meaning : T → Meaning) (allowed : W → ℕ → Bool) (table : T) (limit : W) (support : Support) (proper : Proper (meaning table)) where
   -- a finder that is fresh from begin stands before the first set
-  standing_begun : Standing meaning allowed (query_of meaning allowed (begun table limit support)) (begun table limit support) []
+  pub standing_begun : Standing meaning allowed (query_of meaning allowed (begun table limit support)) (begun table limit support) []
   standing_begun =
       let q = query_of meaning allowed (begun table limit support) in
       record {

@@ -10,3 +10,4 @@ pub mod CountPart
 pub mod BoundPart
 pub mod Lawfulness
 pub mod Recording
+pub mod Wholes

@@ -6,4 +6,5 @@ pub mod Calls
 pub mod Runs
 pub mod Worked
 pub mod Transcripts
+pub mod Whole
 pub mod Descents

@@ -6,9 +6,11 @@ pub mod narrowing;
 pub mod step;
 pub mod tally;
 pub mod transcripts;
+pub mod whole;
 
 pub use finder::Finder;
 pub use narrowing::{Node, narrow};
 pub use step::Step;
 pub use tally::Tally;
 pub use transcripts::{Move, Told, transcript};
+pub use whole::{WholeList, whole_list};

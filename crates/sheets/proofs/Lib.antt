@@ -1,0 +1,13 @@
+pub mod Accepted
+pub mod Lined
+pub mod Numbers
+pub mod Numerals
+pub mod OrderLaw
+pub mod Passing
+pub mod Rendered
+pub mod RightLines
+pub mod Rising
+pub mod Runs
+pub mod Sheets
+pub mod Starts
+pub mod Steps

@@ -1,0 +1,51 @@
+-- The number that digits write.
+use Rattle.std.proofs.Common.{◌≡◌, ℕ, ◌+◌, ◌-◌, ◌*◌, ◌<◌, ◌≤◌, Bool, true, false, ◌||◌, ◌==◌, None, List, [], ◌∷◌, length, get_or, take, drop, fold, refl, subst, rules, arith}
+use Rattle.std.specs.Str.{all_ascii_digits}
+use Rattle.std.proofs.lemmas.List.{take-append-drop}
+use Rattle.std.proofs.lemmas.List.Sums.{fold-append, fold_more}
+use Rattle.std.proofs.lemmas.Str.Parse.{IsNumeralModel, numerals_by_fold, tells_all_ascii_digits, digit_at}
+use Rattle.std.proofs.lemmas.Bool.{ne_eqb, le-ltb, lt-ltb, le-leb}
+use Rattle.marks.specs.Refusals.{range_refusal}
+use Rattle.sheets.specs.Reading.{worth, is_bad_number}
+
+-- a digit more
+abbrev step : ℕ → ℕ → ℕ
+step n d = n * 10 + (d - 48)
+
+pub own : IsNumeralModel (λ ds. all_ascii_digits ds ≡ true) worth
+own = numerals_by_fold (λ ds. all_ascii_digits ds ≡ true) tells_all_ascii_digits (fold step) (search rules)
+
+-- each digit is one
+pub in_range : (ds : List ℕ) (i : ℕ) → all_ascii_digits ds ≡ true → i < length ds → (48 ≤ get_or ds i 0) × (get_or ds i 0 ≤ 57)
+in_range ds i all h = let r = digit_at ds i (own.to ds all) h in (omega (arith, r.0), omega (arith, r.1))
+
+grows : (n : ℕ) (ds : List ℕ) → n ≤ fold step n ds
+grows n [] = omega arith
+grows n (d ∷ ds) = omega (arith, grows (n * 10 + (d - 48)) ds)
+
+pub worth_more : (ds : List ℕ) (i : ℕ) → i < length ds → worth (take (i + 1) ds) ≡ worth (take i ds) * 10 + (get_or ds i 0 - 48)
+worth_more ds i h = fold_more step 0 ds i 0 h
+
+pub worth_front : (ds : List ℕ) (i : ℕ) → worth (take i ds) ≤ worth ds
+worth_front ds i =
+    subst (λ l. worth (take i ds) ≤ worth l) (take-append-drop i ds)
+    (rw (fold-append step 0 (take i ds) (drop i ds)) (grows (worth (take i ds)) (drop i ds)))
+
+-- a number that does not start with 0 is not 0
+pub worth_some : (ds : List ℕ) → 48 < get_or ds 0 0 → 0 < worth ds
+worth_some [] h = absurd (omega arith)
+worth_some (d ∷ ds) h = omega (arith, grows (0 * 10 + (d - 48)) ds)
+
+pub good_number : (n : ℕ) (ds : List ℕ) → (get_or ds 0 0 ≡ 48 → ⊥) → worth ds ≤ n → is_bad_number n ds ≡ false
+good_number n ds some low = rw (ne_eqb (get_or ds 0 0) 48 some, le-ltb n (worth ds) low) refl
+
+pub big_number : (n : ℕ) (ds : List ℕ) → n < worth ds → is_bad_number n ds ≡ true
+big_number n ds high = rw (lt-ltb n (worth ds) high) (by (get_or ds 0 0 == 48))
+  where
+    by : (t : Bool) → (t || true) ≡ true
+    by true = refl
+    by false = refl
+
+-- a number in range is one that can be made
+pub in_due : (number : ℕ) → 0 < number → number ≤ 32 → range_refusal 32 number ≡ None
+in_due number some low = rw (le-leb 1 number (omega arith), le-leb number 32 low) refl

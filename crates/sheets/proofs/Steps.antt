@@ -1,0 +1,178 @@
+-- A sheet is read part by part: each step, and where reading ends.
+use Rattle.std.proofs.Common.{◌≡◌, ℕ, ◌+◌, ◌<◌, Bool, true, false, cond, not, ◌==◌, List, [], ◌∷◌, ◌++◌, length, take, drop, Some, None, Ok, Err, Option, Result, Decides, sym, refl, ap, ◌∙◌, subst, arith}
+use Rattle.std.specs.Char.{is_ascii_digit}
+use Rattle.std.proofs.Math.Seq.{take-add}
+use Rattle.std.proofs.lemmas.Bool.Decides.{same_from_decides}
+use Rattle.std.proofs.lemmas.Bool.{eqb-true, false≢true}
+use Rattle.std.proofs.lemmas.List.{take_at}
+use Rattle.marks.specs.declared.refusal.Reason.TheVariants.{BadByte, NoLineEnd}
+use Rattle.marks.specs.declared.refusal.Refusal.{Refusal}
+use Rattle.marks.specs.Refusals.{Answers, due_if, placed_at_two}
+use Rattle.marks.specs.Sets.{no_marks}
+use Rattle.sheets.specs.declared.line.Left.TheVariants.{Nothing}
+use Rattle.sheets.specs.declared.piece.Piece.{Piece}
+use Rattle.sheets.specs.declared.piece.Place.{Place}
+use Rattle.sheets.specs.declared.reading.Sheet.{Sheet}
+use Rattle.sheets.specs.Cutting.{Part, Digits, Gap, Break, Odd, blank, line_end, part_of_byte, led_by, part_bytes, parts_of, part_of, place_of, line_after, column_after, PartAt, StandsAt, PieceAt}
+use Rattle.sheets.specs.Knowing.{IsSound, Knows, Takes}
+use Rattle.sheets.specs.Lines.{is_nothing, is_blank, left_of, placed_at}
+use Rattle.sheets.specs.Reading.{text_of, rows_of, breaks, fault_after, part_fault, end_fault, Reading, unless_fault, reading_on, text_reading, packed_into}
+
+-- ---- the parts of a text
+
+abbrev pub AllSound : List Part → Type 0
+AllSound [] = Unit {0}
+AllSound (part ∷ parts) = IsSound part × AllSound parts
+
+led_sound : (b : ℕ) (parts : List Part) → is_ascii_digit b ≡ true → AllSound parts → AllSound (led_by b parts)
+led_sound b [] d h = ((omega arith, rw d refl), tt)
+led_sound b (Digits ds ∷ parts) d h = ((omega arith, rw d h.0.1), h.1)
+led_sound b (Gap ∷ parts) d h = ((omega arith, rw d refl), h)
+led_sound b (Break ∷ parts) d h = ((omega arith, rw d refl), h)
+led_sound b (Odd c ∷ parts) d h = ((omega arith, rw d refl), h)
+
+byte_sound : (b : ℕ) → IsSound (part_of_byte b)
+byte_sound b = by (b == blank) (b == line_end)
+  where
+    by : (s t : Bool) → IsSound (cond s Gap (cond t Break (Odd b)))
+    by true t = tt
+    by false true = tt
+    by false false = tt
+
+pub sound : (text : List ℕ) → AllSound (parts_of text)
+sound [] = tt
+sound (b ∷ text) = by (is_ascii_digit b) refl (sound text)
+  where
+    by : (t : Bool) → is_ascii_digit b ≡ t → AllSound (parts_of text) → AllSound (cond t (led_by b (parts_of text)) (part_of_byte b ∷ parts_of text))
+    by true e h = led_sound b (parts_of text) e h
+    by false e h = (byte_sound b, h)
+
+module _ {text : List ℕ} {from to : ℕ} {part : Part} (p : PartAt text from to part) where
+  pub part_sound : IsSound part
+  part_sound = (subst AllSound p.first (sound (drop from text))).0
+
+  pub part_some : from < to
+  part_some = omega (arith, p.ends, by part part_sound)
+    where
+      by : (part : Part) → IsSound part → 0 < length (part_bytes part)
+      by (Digits ds) h = h.0
+      by Gap h = omega arith
+      by Break h = omega arith
+      by (Odd b) h = omega arith
+
+  -- the bytes up to its end
+  pub front_more : take to text ≡ take from text ++ part_bytes part
+  front_more =
+      ap (λ k. take k text) p.ends ∙ take-add from (length (part_bytes part)) text
+      ∙ ap (λ l. take from text ++ l) (ap (take (length (part_bytes part))) p.bytes ∙ take_at (part_bytes part) (drop to text) (length (part_bytes part)) refl)
+
+led_breaks : (b : ℕ) (parts : List Part) → breaks (led_by b parts) ≡ false
+led_breaks b [] = refl
+led_breaks b (Digits ds ∷ parts) = refl
+led_breaks b (Gap ∷ parts) = refl
+led_breaks b (Break ∷ parts) = refl
+led_breaks b (Odd c ∷ parts) = refl
+
+-- whether a text begins with a line end
+pub breaks_decides : (text : List ℕ) → Decides (breaks (parts_of text)) ((rest : List ℕ) × (text ≡ line_end ∷ rest))
+breaks_decides [] = (λ t. absurd (false≢true t), λ w. let e : [] ≡ line_end ∷ w.0 = w.1 in cc)
+breaks_decides (b ∷ text) = (by (is_ascii_digit b) (b == blank) (b == line_end) refl, λ w. let e : b ≡ line_end = cc in subst (λ c. breaks (parts_of (c ∷ text)) ≡ true) (sym e) refl)
+  where
+    by : (d s t : Bool) → (b == line_end) ≡ t → breaks (cond d (led_by b (parts_of text)) (cond s Gap (cond t Break (Odd b)) ∷ parts_of text)) ≡ true → (rest : List ℕ) × (b ∷ text ≡ line_end ∷ rest)
+    by true s t e h = absurd (false≢true (sym (led_breaks b (parts_of text)) ∙ h))
+    by false true t e h = absurd (false≢true h)
+    by false false true e h = (text, ap (λ c. c ∷ text) (eqb-true b line_end e))
+    by false false false e h = absurd (false≢true h)
+
+-- ---- reading
+
+-- the parts before a place are passed, and what follows decides what comes of the text
+pub record Passed (n : ℕ) (text start now : List ℕ) (at : ℕ) (sheet : Sheet) : Type 0 where
+  pub passed : List Part
+  pub front : text_of passed ≡ take at text
+  pub onward : reading_on n (length start) passed (parts_of (drop at text)) ≡ text_reading n (length start) text
+  pub knows : Knows passed start now sheet
+  pub width : sheet.width.number ≡ n
+
+-- the text is refused, and the rows before the fault are packed
+pub record Stopped (n : ℕ) (text start now : List ℕ) (refusal : Refusal) : Type 0 where
+  pub due : (text_reading n (length start) text).refusal ≡ Some refusal
+  pub memory : now ≡ packed_into (text_reading n (length start) text).rows start
+
+-- all is passed, and packed
+pub record Done (n : ℕ) (text start now : List ℕ) (count : ℕ) : Type 0 where
+  pub due : (text_reading n (length start) text).refusal ≡ None
+  pub counted : count ≡ length (text_reading n (length start) text).rows
+  pub memory : now ≡ packed_into (text_reading n (length start) text).rows start
+
+pub begin : (n : ℕ) (text start : List ℕ) (sheet : Sheet) → sheet.width.number ≡ n → sheet.line.row.bits ≡ no_marks → sheet.line.left ≡ Nothing → sheet.count ≡ 0
+    → Passed n text start start 0 sheet
+begin n text start sheet width row left count = record {
+  passed = [];
+  front = refl;
+  onward = refl;
+  knows = record { row = row; left = ap left_of left; nothing = ap is_nothing left; blank = ap is_blank left; counted = count; memory = refl };
+  width = width;
+}
+
+module _ {n : ℕ} {text start now : List ℕ} {at : ℕ} {sheet : Sheet} (s : Passed n text start now at sheet) where
+  pub placed : (place : Place) → StandsAt text at place → placed_at place ≡ fault_after s.passed
+  placed place p = λ i reason. placed_at_two reason ((p.line ∙ ap line_after (sym s.front)) i) ((p.column ∙ ap column_after (sym s.front)) i)
+
+  -- a fault at a part
+  at_part : {to : ℕ} {part : Part} → PartAt text at to part
+      → unless_fault (part_fault n (length start) s.passed part (parts_of (drop to text))) (rows_of s.passed) (reading_on n (length start) (part ∷ s.passed) (parts_of (drop to text))) ≡ text_reading n (length start) text
+  at_part p = ap (reading_on n (length start) s.passed) (sym p.first) ∙ s.onward
+
+  stopped : {refusal : Refusal} → record { refusal = Some refusal; rows = rows_of s.passed } ≡ text_reading n (length start) text → Stopped n text start now refusal
+  stopped e = record { due = ap (λ r. r.refusal) (sym e); memory = s.knows.memory ∙ ap (λ (r : Reading). packed_into r.rows start) e }
+
+  pub odd : (b : ℕ) (refusal : Refusal) → PartAt text at (at + 1) (Odd b) → refusal ≡ placed_at_two BadByte (line_after (take at text)) (column_after (take at text))
+      → Stopped n text start now refusal
+  odd b refusal p e =
+      let here : refusal ≡ fault_after s.passed BadByte = e ∙ ap (λ l. placed_at_two BadByte (line_after l) (column_after l)) (sym s.front) in
+      subst (Stopped n text start now) (sym here) (stopped (at_part p))
+
+  module _ (to : ℕ) (piece : Piece) (before : Bool) (new : Sheet) (held : List ℕ) (p : PieceAt text at to piece)
+      (rest : Decides before ((rest : List ℕ) × (drop to text ≡ line_end ∷ rest))) (same : length now ≡ length start) where
+    answer : (r : Result (Unit {0}) Refusal) → Takes piece before sheet new now held r
+        → Answers (part_fault n (length start) s.passed (part_of piece) (parts_of (drop to text))) (λ _. Knows (part_of piece ∷ s.passed) start held new) r
+    answer r t =
+        subst (λ w. Answers (part_fault w (length start) s.passed (part_of piece) (parts_of (drop to text))) (λ _. Knows (part_of piece ∷ s.passed) start held new) r) s.width
+        (t s.passed (parts_of (drop to text)) start s.knows same (placed (place_of piece) p.1) (same_from_decides before (breaks (parts_of (drop to text))) rest (breaks_decides (drop to text))))
+
+    pub refused : (refusal : Refusal) → Takes piece before sheet new now held (Err refusal) → held ≡ now → Stopped n text start held refusal
+    refused refusal t kept =
+        let due : part_fault n (length start) s.passed (part_of piece) (parts_of (drop to text)) ≡ Some refusal = answer (Err refusal) t in
+        subst (λ l. Stopped n text start l refusal) (sym kept)
+        (stopped (ap (λ d. unless_fault d (rows_of s.passed) (reading_on n (length start) (part_of piece ∷ s.passed) (parts_of (drop to text)))) (sym due) ∙ at_part p.0))
+
+    pub next : (x : Unit {0}) → Takes piece before sheet new now held (Ok x) → new.width ≡ sheet.width → Passed n text start held to new
+    next x t width =
+        let a = answer (Ok x) t in
+        record {
+          passed = part_of piece ∷ s.passed;
+          front = ap (λ l. l ++ part_bytes (part_of piece)) s.front ∙ sym (front_more p.0);
+          onward = ap (λ d. unless_fault d (rows_of s.passed) (reading_on n (length start) (part_of piece ∷ s.passed) (parts_of (drop to text)))) (sym a.0) ∙ at_part p.0;
+          knows = a.1;
+          width = ap (λ w. w.number) width ∙ s.width;
+        }
+
+  -- the end of the text
+  at_end : drop at text ≡ [] → record { refusal = end_fault s.passed; rows = rows_of s.passed } ≡ text_reading n (length start) text
+  at_end e = ap (λ l. reading_on n (length start) s.passed (parts_of l)) (sym e) ∙ s.onward
+
+  pub unfinished : (place : Place) → drop at text ≡ [] → StandsAt text at place → is_nothing sheet.line.left ≡ false → Stopped n text start now (placed_at place NoLineEnd)
+  unfinished place e p begun =
+      let due : Some (placed_at place NoLineEnd) ≡ end_fault s.passed = λ i. due_if (not ((sym begun ∙ s.knows.nothing) i)) (placed place p i NoLineEnd) in
+      stopped (ap (λ (d : Option Refusal). record { refusal = d; rows = rows_of s.passed }) due ∙ at_end e)
+
+  pub finished : drop at text ≡ [] → is_nothing sheet.line.left ≡ true → Done n text start now sheet.count
+  finished e closed =
+      let due : None ≡ end_fault s.passed = λ i. due_if (not ((sym closed ∙ s.knows.nothing) i)) (fault_after s.passed NoLineEnd) in
+      let read = ap (λ (d : Option Refusal). record { refusal = d; rows = rows_of s.passed }) due ∙ at_end e in
+      record {
+        due = ap (λ (r : Reading). r.refusal) (sym read);
+        counted = s.knows.counted ∙ ap (λ (r : Reading). length r.rows) read;
+        memory = s.knows.memory ∙ ap (λ (r : Reading). packed_into r.rows start) read;
+      }

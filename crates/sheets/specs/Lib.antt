@@ -1,0 +1,9 @@
+pub mod Accepting
+pub mod Cutting
+pub mod Digits
+pub mod Knowing
+pub mod Lines
+pub mod OrderLines
+pub mod Reading
+pub mod Rendering
+pub mod Written

@@ -1,0 +1,29 @@
+-- Writing packed bytes as a sheet.
+use Rattle.std.specs.Prelude.{◌≡◌, ℕ, List, [], ◌∷◌, ◌++◌, length, drop, Option, Result, nat_lt}
+use Rattle.marks.specs.declared.refusal.Reason.TheVariants.{NoPlace, Long}
+use Rattle.marks.specs.declared.refusal.Refusal.{Refusal}
+use Rattle.marks.specs.Refusals.{Answers, unplaced, due_if, first_due}
+use Rattle.tables.specs.Packed.{packed_rows, packed_refusal}
+use Rattle.sheets.specs.Rendering.{render, most_bytes}
+
+-- the sheet of packed bytes
+abbrev pub sheet_of : List ℕ → List ℕ
+sheet_of bytes = render (packed_rows bytes)
+
+-- a text that stands in the front of memory that held these bytes, which are else as they were
+abbrev pub put_in_front : List ℕ → List ℕ → List ℕ
+put_in_front text memory = text ++ drop (length text) memory
+
+-- writing packed bytes of the width n into memory of so many bytes
+unfoldable pub write_refusal : List ℕ → ℕ → ℕ → Option Refusal
+write_refusal bytes n room =
+    first_due
+    (packed_refusal bytes n
+    ∷ due_if (nat_lt most_bytes (length (sheet_of bytes))) (unplaced Long)
+    ∷ due_if (nat_lt room (length (sheet_of bytes))) (unplaced NoPlace)
+    ∷ [])
+
+-- what is answered, and what memory then holds
+abbrev pub Writes : List ℕ → ℕ → List ℕ → List ℕ → Result ℕ Refusal → Type 0
+Writes bytes n old new =
+    Answers (write_refusal bytes n (length old)) (λ size. (size ≡ length (sheet_of bytes)) × (new ≡ put_in_front (sheet_of bytes) old))

@@ -1,0 +1,114 @@
+// A line of a sheet while it is read.
+ghost use Rattle.std.specs.Prelude.{◌≡◌, ◌<◌, ◌||◌, not, true, false, length, MatchOption, nat_le};
+ghost use Rattle.std.specs.Str.{all_ascii_digits};
+ghost use Rattle.marks.specs.Refusals.{Answers, due_if};
+ghost use Rattle.marks.specs.Sets.{no_marks};
+ghost use Rattle.sheets.specs.Reading.{worth, is_bad_number, number_fault};
+ghost use Rattle.sheets.specs.Lines.{is_nothing, is_blank, left_of, placed_at, HasAdded, HasParted};
+
+use crate::piece::Place;
+use marks::{Mark, MarkSet, Reason, Refusal, Width};
+
+/// What stands at the left in a line: nothing, a mark, or a mark and a blank.
+#[derive(Clone, Copy, Debug)]
+pub(crate) enum Left {
+    Nothing,
+    Mark(Mark),
+    Blank(Mark),
+}
+
+/// A line while it is read.
+#[derive(Clone, Copy, Debug)]
+pub(crate) struct Line {
+    // Its marks so far.
+    pub(crate) row: MarkSet,
+    left: Left,
+}
+
+// A refusal at a place of the text.
+pub(crate) fn refused(reason: Reason, place: Place) -> Refusal
+    ensures { result ≡ placed_at place reason }
+{
+    Refusal::at_line(reason, place.line, place.column)
+}
+
+// The mark that digits write, unless they start with 0 or exceed the width.
+fn mark(digits: &[u8], width: Width) -> Option<Mark>
+    requires some { 0 < length digits.now }
+    requires all { all_ascii_digits digits.now ≡ true }
+    ensures { MatchOption result (is_bad_number width.number digits.now ≡ true) (λ m. (is_bad_number width.number digits.now ≡ false) × (m.number ≡ worth digits.now)) }
+{
+    if digits[0] == b'0' {
+        return None;
+    }
+    let mut number = 0;
+    for digit in digits {
+        number = number * 10 + u32::from(*digit - b'0');
+        if number > width.get() {
+            return None;
+        }
+    }
+    Mark::new(u64::from(number)).ok()
+}
+
+impl Left {
+    // Whether a mark is above the one at the left, if there is one.
+    fn is_below(self, mark: Mark) -> bool
+        ensures { result ≡ not (nat_le mark.number (left_of self)) }
+    {
+        match self {
+            Left::Nothing => true,
+            Left::Mark(left) | Left::Blank(left) => left.get() < mark.get(),
+        }
+    }
+}
+
+impl Line {
+    // A line of which nothing is read.
+    pub(crate) fn new() -> Line
+        ensures row { result.row.bits ≡ no_marks }
+        ensures left { result.left ≡ Left.Nothing }
+    {
+        Line {
+            row: MarkSet::empty(),
+            left: Left::Nothing,
+        }
+    }
+
+    // Whether anything of the line is read.
+    pub(crate) fn is_begun(&self) -> bool
+        ensures { result ≡ not (is_nothing self.now.left) }
+    {
+        !matches!(self.left, Left::Nothing)
+    }
+
+    // Adds a number.
+    pub(crate) fn add(&mut self, digits: &[u8], place: Place, width: Width) -> Result<(), Refusal>
+        requires some { 0 < length digits.now }
+        requires all { all_ascii_digits digits.now ≡ true }
+        ensures { Answers (number_fault (placed_at place) width.number (left_of self.old.left) digits.now) (λ _. HasAdded self.old self.new (worth digits.now)) result }
+    {
+        let Some(mark) = mark(digits, width) else {
+            return Err(refused(Reason::BadNumber, place));
+        };
+        if !self.left.is_below(mark) {
+            return Err(refused(Reason::BadRise, place));
+        }
+        self.row = self.row.with(mark);
+        self.left = Left::Mark(mark);
+        Ok(())
+    }
+
+    // Passes a blank.
+    pub(crate) fn part(&mut self, place: Place, before_line_end: bool) -> Result<(), Refusal>
+        ensures { Answers (due_if (is_nothing self.old.left || (is_blank self.old.left || before_line_end)) (placed_at place Reason.BadBlank)) (λ _. HasParted self.old self.new) result }
+    {
+        match self.left {
+            Left::Mark(mark) if !before_line_end => {
+                self.left = Left::Blank(mark);
+                Ok(())
+            }
+            _ => Err(refused(Reason::BadBlank, place)),
+        }
+    }
+}

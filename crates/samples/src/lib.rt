@@ -22,6 +22,8 @@ mod records;
 #[cfg(test)]
 mod refusals;
 #[cfg(test)]
+mod runs;
+#[cfg(test)]
 mod sets;
 pub mod within;
 

@@ -5,9 +5,11 @@ pub mod Numerals
 pub mod OrderLaw
 pub mod Passing
 pub mod Rendered
+pub mod Repacked
 pub mod RightLines
 pub mod Rising
 pub mod Runs
+pub mod Sheeted
 pub mod Sheets
 pub mod Starts
 pub mod Steps

@@ -8,11 +8,13 @@ use Rattle.std.proofs.lemmas.Bool.{and_parts, and_from, leb-true, le-leb, eqb-tr
 use Rattle.std.proofs.lemmas.Fmt.{decimal-digits_value, decimal_digit, decimal_nonempty, digits_decimal, first_decimal, length-decimal-le}
 use Rattle.std.proofs.lemmas.List.{get_or_append_left, take_at}
 use Rattle.std.proofs.lemmas.List.Sums.{take_while-cons}
-use Rattle.std.proofs.lemmas.Str.Parse.{IsNumeralModel, numerals_by_value, tells_digits, digits_value_short}
-use Rattle.sheets.specs.Digits.{most_digits, leading_digits, number_of_digits}
+use Rattle.std.proofs.lemmas.Str.Parse.{IsNumeralModel, tells_digits, digits_value_short}
+use Rattle.sheets.specs.Digits.{most_digits, leading_digits}
+use Rattle.sheets.specs.Reading.{worth}
+use Rattle.sheets.proofs.Numbers
 
-pub own : IsNumeralModel (AllDigits 10) number_of_digits
-own = numerals_by_value (AllDigits 10) tells_digits
+pub own : IsNumeralModel (AllDigits 10) worth
+own = record { to = λ ds all. all; from = λ ds all. all; same = λ ds all. Numbers.own.same ds all }
 
 pub digit_in : (b : ℕ) → is_ascii_digit b ≡ true → IsInRange 48 57 b
 digit_in b e = let p = and_parts (leb 48 b) (leb b 57) e in (leb-true 48 b p.0, leb-true b 57 p.1)
@@ -121,10 +123,10 @@ leading-decimal n b rest small none =
 
 -- the digits at the front of a text write a number that is written so
 pub record Numeral (text : List ℕ) : Type 0 where
-  pub back : decimal (number_of_digits (leading_digits text)) ≡ leading_digits text
-  pub small : number_of_digits (leading_digits text) < 10 ^ most_digits
+  pub back : decimal (worth (leading_digits text)) ≡ leading_digits text
+  pub small : worth (leading_digits text) < 10 ^ most_digits
 
-pub small_number : (text : List ℕ) → number_of_digits (leading_digits text) < 10 ^ most_digits
+pub small_number : (text : List ℕ) → worth (leading_digits text) < 10 ^ most_digits
 small_number text = let f = leading text in digits_value_short own (leading_digits text) most_digits f.all (few_leading text)
 
 pub numeral : (text : List ℕ) → 0 < length (leading_digits text) → Numeral text

@@ -7,8 +7,9 @@ use Rattle.std.proofs.lemmas.Fmt.{decimal_nonempty, decimal_injective, digits_de
 use Rattle.std.proofs.lemmas.Int.Digits.{digits_push}
 use Rattle.std.proofs.lemmas.List.{length-append, drop_more, take_at, get_or_at, get_or_append_left, get_or_past, take-append-drop, take-take}
 use Rattle.std.proofs.lemmas.Str.Parse.{tells_digits}
-use Rattle.sheets.specs.Digits.{most_digits, leading_digits, number_of_digits}
-use Rattle.sheets.specs.OrderLines.{ended_numbers, FitFor, Begins, Fronts, FormFault, is_ended}
+use Rattle.sheets.specs.Digits.{most_digits, leading_digits}
+use Rattle.sheets.specs.Reading.{worth}
+use Rattle.sheets.specs.OrderLines.{ended_numbers, FitFor, Begins, BeginRightLine, FormFault, is_ended}
 use Rattle.sheets.proofs.Numerals.{own, leading, few_digits, digit_in, not_both, most_of, most_after_zero, most_after_other, first_digit, zero_from_first, leading-decimal, numeral, small_number}
 
 -- what ends a number: no digit, and not 0, which stands for what is past a text
@@ -115,7 +116,7 @@ module _ (e : ℕ) (ends text rest : List ℕ) (k : ℕ) (end : IsEnd e) (some :
   ds = leading_digits text
 
   n : ℕ
-  n = number_of_digits (leading_digits text)
+  n = worth (leading_digits text)
 
   longer_within : length (leading_digits text) + 1 + k ≤ length text
   longer_within = omega (arith, ap length is, length-append (leading_digits text) (e ∷ rest), f.within)
@@ -123,13 +124,13 @@ module _ (e : ℕ) (ends text rest : List ℕ) (k : ℕ) (end : IsEnd e) (some :
   longer_taken : (m : ℕ) → take (length (leading_digits text) + 1 + m) text ≡ leading_digits text ++ (e ∷ take m rest)
   longer_taken m = ap (take (length (leading_digits text) + 1 + m)) is ∙ take_past (leading_digits text) e rest m (length (leading_digits text) + 1 + m) refl
 
-  longer_before : Fronts (e ∷ ends) (take (length (leading_digits text) + 1 + k) text)
+  longer_before : BeginRightLine (e ∷ ends) (take (length (leading_digits text) + 1 + k) text)
   longer_before =
       let numbers = f.before.0 in
       let tail = f.before.2.0 in
-      let first : decimal (number_of_digits (leading_digits text)) ≡ leading_digits text = (numeral text some).back in (
-        number_of_digits (leading_digits text) ∷ numbers,
-        fit_more e ends (number_of_digits (leading_digits text)) numbers (small_number text) f.before.1,
+      let first : decimal (worth (leading_digits text)) ≡ leading_digits text = (numeral text some).back in (
+        worth (leading_digits text) ∷ numbers,
+        fit_more e ends (worth (leading_digits text)) numbers (small_number text) f.before.1,
         (
           tail,
           ap (λ (l : List ℕ). l ++ (e ∷ ended_numbers ends numbers)) first ∙ ap (λ (l : List ℕ). leading_digits text ++ (e ∷ l)) f.before.2.1
@@ -137,7 +138,7 @@ module _ (e : ℕ) (ends text rest : List ℕ) (k : ℕ) (end : IsEnd e) (some :
         ),
       )
 
-  longer_past : length (leading_digits text) + 1 + k < length text → Fronts (e ∷ ends) (take (length (leading_digits text) + 1 + k + 1) text) → ⊥
+  longer_past : length (leading_digits text) + 1 + k < length text → BeginRightLine (e ∷ ends) (take (length (leading_digits text) + 1 + k + 1) text) → ⊥
   longer_past h fronts = by fronts.0 fronts.1 fronts.2.0 fronts.2.1
     where
       by : (numbers : List ℕ) → FitFor (e ∷ ends) numbers → (tail : List ℕ) → ended_numbers (e ∷ ends) numbers ≡ take (length (leading_digits text) + 1 + k + 1) text ++ tail → ⊥
@@ -175,18 +176,18 @@ module _ (e : ℕ) (ends text : List ℕ) (end : IsEnd e) (wrong : is_ended e te
   here_taken : take (length (leading_digits text)) text ≡ leading_digits text
   here_taken = ap (take (length (leading_digits text))) (leading text).parts ∙ take_at (leading_digits text) (drop (length (leading_digits text)) text) (length (leading_digits text)) refl
 
-  here_before : Fronts (e ∷ ends) (take (length (leading_digits text)) text)
-  here_before = (number_of_digits (leading_digits text) ∷ zeros ends, fit_more e ends (number_of_digits (leading_digits text)) (zeros ends) (small_number text) (zeros_fit ends), by (cases_lt 0 (length (leading_digits text))))
+  here_before : BeginRightLine (e ∷ ends) (take (length (leading_digits text)) text)
+  here_before = (worth (leading_digits text) ∷ zeros ends, fit_more e ends (worth (leading_digits text)) (zeros ends) (small_number text) (zeros_fit ends), by (cases_lt 0 (length (leading_digits text))))
     where
       line : List ℕ
-      line = ended_numbers (e ∷ ends) (number_of_digits (leading_digits text) ∷ zeros ends)
+      line = ended_numbers (e ∷ ends) (worth (leading_digits text) ∷ zeros ends)
 
-      by : (0 < length (leading_digits text)) ⊎ (length (leading_digits text) ≤ 0) → Begins (ended_numbers (e ∷ ends) (number_of_digits (leading_digits text) ∷ zeros ends)) (take (length (leading_digits text)) text)
+      by : (0 < length (leading_digits text)) ⊎ (length (leading_digits text) ≤ 0) → Begins (ended_numbers (e ∷ ends) (worth (leading_digits text) ∷ zeros ends)) (take (length (leading_digits text)) text)
       by (inl some) = (e ∷ ended_numbers ends (zeros ends), ap (λ (l : List ℕ). l ++ (e ∷ ended_numbers ends (zeros ends))) ((numeral text some).back ∙ sym here_taken))
       by (inr none) =
           let zero_is : length (leading_digits text) ≡ 0 = omega arith in (
-            ended_numbers (e ∷ ends) (number_of_digits (leading_digits text) ∷ zeros ends),
-            ap (λ m. take m text ++ ended_numbers (e ∷ ends) (number_of_digits (leading_digits text) ∷ zeros ends)) (sym zero_is),
+            ended_numbers (e ∷ ends) (worth (leading_digits text) ∷ zeros ends),
+            ap (λ m. take m text ++ ended_numbers (e ∷ ends) (worth (leading_digits text) ∷ zeros ends)) (sym zero_is),
           )
 
   -- a line that goes on as the text does has the number and this end there
@@ -230,7 +231,7 @@ module _ (e : ℕ) (ends text : List ℕ) (end : IsEnd e) (wrong : is_ended e te
             | inr other ↦ absurd (omega (arith, within.0, size, full, most_after_other text other, few_digits y small))
           ]
 
-  here_past : length (leading_digits text) < length text → Fronts (e ∷ ends) (take (length (leading_digits text) + 1) text) → ⊥
+  here_past : length (leading_digits text) < length text → BeginRightLine (e ∷ ends) (take (length (leading_digits text) + 1) text) → ⊥
   here_past h fronts = by fronts.0 fronts.1 fronts.2.0 fronts.2.1
     where
       taken_more : take (length (leading_digits text) + 1) text ≡ leading_digits text ++ (get_or text (length (leading_digits text)) 0 ∷ [])
@@ -262,7 +263,7 @@ module _ (e : ℕ) (ends text : List ℕ) (end : IsEnd e) (wrong : is_ended e te
 
 -- ---- only one place is the first
 
-fronts_less : (ends text : List ℕ) (j k : ℕ) → j ≤ k → Fronts ends (take k text) → Fronts ends (take j text)
+fronts_less : (ends text : List ℕ) (j k : ℕ) → j ≤ k → BeginRightLine ends (take k text) → BeginRightLine ends (take j text)
 fronts_less ends text j k h f = (
   f.0,
   f.1,

@@ -1,14 +1,19 @@
 -- Which texts are accepted, by what comes of reading them.
-use Rattle.std.proofs.Common.{◌≡◌, ℕ, ◌<◌, ◌≤◌, List, [], length, Some, Ok, Err, Result, sym, refl, ap, ◌∙◌}
+use Rattle.std.proofs.Common.{◌≡◌, ℕ, ◌*◌, ◌^◌, ◌<◌, ◌≤◌, List, [], length, get_or, take, drop, arith, Some, Ok, Err, Result, sym, refl, ap, ◌∙◌}
+use Rattle.std.proofs.Math.Pow.{pow_mono}
+use Rattle.std.proofs.lemmas.List.{take_at}
 use Rattle.std.proofs.lemmas.Bool.{le-ltb, lt-ltb}
 use Rattle.std.proofs.lemmas.Option.{none-some}
 use Rattle.marks.specs.declared.refusal.Reason.TheVariants.{Long}
 use Rattle.marks.specs.declared.refusal.Refusal.{Refusal}
 use Rattle.marks.specs.Refusals.{Answers, unplaced}
+use Rattle.tables.specs.Packed.{row_bytes, packed_rows}
 use Rattle.sheets.specs.Accepting.{AcceptsSheets, AcceptsOnlySheets, IsOneSheet}
 use Rattle.sheets.specs.Reading.{Reading, text_reading, reading, packed_into}
-use Rattle.sheets.specs.Rendering.{most_bytes}
+use Rattle.sheets.specs.Rendering.{packed_bytes, most_bytes}
 use Rattle.sheets.proofs.Accepted.{accepted}
+use Rattle.sheets.proofs.Passing.{length_packed}
+use Rattle.sheets.proofs.Repacked.{rows_again}
 use Rattle.sheets.proofs.Rendered.{sheet_read}
 
 pub long_reading : (n room : ℕ) (text : List ℕ) → most_bytes < length text → reading n room text ≡ record { refusal = Some (unplaced Long); rows = [] }
@@ -35,8 +40,19 @@ module _ (n : ℕ) (text old new : List ℕ) (narrow : n ≤ 32) where
       let e = sheet_read n (length old) text rows narrow s in
       absurd (none-some refusal (sym (ap (λ (x : Reading). x.refusal) e) ∙ r.answer))
 
+  -- a packed table over the bytes that are packed has these rows
+  table : (rows : List ℕ) (count : ℕ) → count ≡ length rows → ((k : ℕ) → get_or rows k 0 < 2 ^ n) → new ≡ packed_into rows old → packed_rows (take (row_bytes * count) new) ≡ rows
+  table rows count size within e =
+      let front : take (row_bytes * count) new ≡ packed_bytes rows =
+      ap (take (row_bytes * count)) e ∙ take_at (packed_bytes rows) (drop (row_bytes * length rows) old) (row_bytes * count) (omega (arith, length_packed rows))
+      in
+      ap packed_rows front ∙ rows_again rows (λ k. omega (arith, within k, pow_mono {i = n} {j = 32} narrow))
+
   pub only_sheets : (result : Result ℕ Refusal) → Reads n text old new result → AcceptsOnlySheets n text old new result
-  only_sheets (Ok count) r = ((reading n (length old) text).rows, accepted n (length old) text narrow r.answer.0, r.answer.1, r.memory)
+  only_sheets (Ok count) r =
+      let rows = (reading n (length old) text).rows in
+      let sheet = accepted n (length old) text narrow r.answer.0 in
+      (rows, sheet, r.answer.1, r.memory, table rows count r.answer.1 sheet.within r.memory)
   only_sheets (Err refusal) r =
       λ rows s.
       none-some refusal (sym (ap (λ (x : Reading). x.refusal) (sheet_read n (length old) text rows narrow s)) ∙ r.answer)

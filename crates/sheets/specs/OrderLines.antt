@@ -5,7 +5,8 @@ use Rattle.marks.specs.declared.refusal.Reason.TheVariants.{Form, Range}
 use Rattle.marks.specs.declared.refusal.Refusal.{Refusal}
 use Rattle.marks.specs.Numbers.{most_marks, most_charges}
 use Rattle.marks.specs.Refusals.{Answers, placed_at_two, due_if}
-use Rattle.sheets.specs.Digits.{most_digits, leading_digits, number_of_digits}
+use Rattle.sheets.specs.Digits.{most_digits, leading_digits}
+use Rattle.sheets.specs.Reading.{worth}
 use Rattle.sheets.specs.declared.order.Order.{Order}
 
 -- ---- right lines
@@ -29,15 +30,15 @@ pub record FitFor (ends numbers : List ℕ) : Type 0 where
 abbrev pub Begins : List ℕ → List ℕ → Type 0
 Begins text line = (rest : List ℕ) × (text ≡ line ++ rest)
 
--- a right line begins with these bytes
-abbrev pub Fronts : List ℕ → List ℕ → Type 0
-Fronts ends front = (numbers : List ℕ) × FitFor ends numbers × Begins (ended_numbers ends numbers) front
+-- these bytes begin a right line
+abbrev pub BeginRightLine : List ℕ → List ℕ → Type 0
+BeginRightLine ends bytes = (numbers : List ℕ) × FitFor ends numbers × Begins (ended_numbers ends numbers) bytes
 
 -- Behind k bytes of the text stands the first byte that no right line could have after them, or the text ends there before a line is whole.
 pub record FormFault (ends text : List ℕ) (k : ℕ) : Type 0 where
   pub within : k ≤ length text
-  pub before : Fronts ends (take k text)
-  pub past : k < length text → Fronts ends (take (k + 1) text) → ⊥
+  pub before : BeginRightLine ends (take k text)
+  pub past : k < length text → BeginRightLine ends (take (k + 1) text) → ⊥
   pub none : (numbers : List ℕ) → FitFor ends numbers → Begins text (ended_numbers ends numbers) → ⊥
 
 -- ---- what a text says
@@ -57,7 +58,7 @@ number_start text (suc k) = number_end text (number_start text k) + 1
 
 -- the number k
 abbrev pub number_in : List ℕ → ℕ → ℕ
-number_in text k = number_of_digits (leading_digits (drop (number_start text k) text))
+number_in text k = worth (leading_digits (drop (number_start text k) text))
 
 -- taking the number at a place, which has to be ended so
 abbrev pub end_refusal : ℕ → List ℕ → ℕ → Option Refusal

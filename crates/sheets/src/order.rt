@@ -3,7 +3,8 @@ ghost use Rattle.std.specs.Prelude.{◌≡◌, ◌+◌, ◌<◌, ◌≤◌, leng
 ghost use Rattle.std.specs.Str.Parse.{AllDigits};
 ghost use Rattle.marks.specs.declared.refusal.Reason.TheVariants.{Range};
 ghost use Rattle.marks.specs.Refusals.{Answers, placed_at_two};
-ghost use Rattle.sheets.specs.Digits.{most_digits, leading_digits, number_of_digits};
+ghost use Rattle.sheets.specs.Digits.{most_digits, leading_digits};
+ghost use Rattle.sheets.specs.Reading.{worth};
 ghost use Rattle.sheets.specs.OrderLines.{number_end, end_refusal, range_due, order_refusal, Says, ReadsRightLines};
 
 use marks::{Charge, MOST_CHARGES, MOST_MARKS, Number, Reason, Refusal, Support, Width};
@@ -78,10 +79,10 @@ fn leading_digits(text: &[u8]) -> &[u8]
 }
 
 // The number that digits write.
-fn number_of_digits(digits: &[u8]) -> u32
+fn worth(digits: &[u8]) -> u32
     requires digits { AllDigits 10 digits.now }
     requires few { length digits.now ≤ most_digits }
-    ensures { result ≡ number_of_digits digits.now }
+    ensures { result ≡ worth digits.now }
 {
     let mut number = 0;
     for digit in digits {
@@ -103,7 +104,7 @@ impl Numbers<'_> {
     // Takes the next number, and the byte that has to end it.
     fn take(&mut self, end: u8) -> Result<Numeral, Refusal>
         requires { 0 < end }
-        ensures answer { Answers (end_refusal end self.old.text.now self.old.taken) (λ n. (n.value ≡ number_of_digits (leading_digits (drop self.old.taken self.old.text.now))) × (n.column ≡ self.old.taken + 1) × (self.new.taken ≡ number_end self.old.text.now self.old.taken + 1)) result }
+        ensures answer { Answers (end_refusal end self.old.text.now self.old.taken) (λ n. (n.value ≡ worth (leading_digits (drop self.old.taken self.old.text.now))) × (n.column ≡ self.old.taken + 1) × (self.new.taken ≡ number_end self.old.text.now self.old.taken + 1)) result }
         ensures text { self.new.text.now ≡ self.old.text.now }
     {
         let rest = &self.text[self.taken..];
@@ -112,7 +113,7 @@ impl Numbers<'_> {
         match rest.get(digits.len()) {
             Some(byte) if *byte == end && !digits.is_empty() => {
                 let numeral = Numeral {
-                    value: number_of_digits(digits),
+                    value: worth(digits),
                     column: self.taken as u64 + 1,
                 };
                 self.taken = last + 1;

@@ -27,7 +27,10 @@ pub(crate) struct Sheet {
 impl Sheet {
     // A sheet of which nothing is read.
     fn new(width: Width) -> Sheet
-        ensures { (result.width ≡ width) × (result.line.row.bits ≡ no_marks) × (result.line.left ≡ Left.Nothing) × (result.count ≡ 0) }
+        ensures width { result.width ≡ width }
+        ensures row { result.line.row.bits ≡ no_marks }
+        ensures left { result.line.left ≡ Left.Nothing }
+        ensures count { result.count ≡ 0 }
     {
         Sheet {
             width,
@@ -78,7 +81,7 @@ impl Sheet {
 
 // Reads a text of any length.
 fn read_text(text: &[u8], width: Width, memory: &mut [u8]) -> Result<usize, Refusal>
-    ensures answer { Answers (text_reading width.number (length memory.old) text.now).refusal (λ count. count ≡ length (text_reading width.number (length memory.old) text.now).rows) result }
+    ensures answer { let read = text_reading width.number (length memory.old) text.now in Answers read.refusal (λ count. count ≡ length read.rows) result }
     ensures memory { memory.new ≡ packed_into (text_reading width.number (length memory.old) text.now).rows memory.old }
 {
     let mut reader = Reader::new(text);
@@ -96,7 +99,7 @@ fn read_text(text: &[u8], width: Width, memory: &mut [u8]) -> Result<usize, Refu
 /// Refused: LONG above 1,048,576 bytes; then the first fault from the left to the right, with its line and its column.
 /// The lines before a fault stay packed; every other byte of memory is as it was.
 pub fn read_sheet(text: &[u8], width: Width, memory: &mut [u8]) -> Result<usize, Refusal>
-    ensures answer { Answers (reading width.number (length memory.old) text.now).refusal (λ count. count ≡ length (reading width.number (length memory.old) text.now).rows) result }
+    ensures answer { let read = reading width.number (length memory.old) text.now in Answers read.refusal (λ count. count ≡ length read.rows) result }
     ensures memory { memory.new ≡ packed_into (reading width.number (length memory.old) text.now).rows memory.old }
     ensures sheets { AcceptsSheets width.number text.now memory.old memory.new result }
     ensures only_sheets { AcceptsOnlySheets width.number text.now memory.old memory.new result }

@@ -1,8 +1,8 @@
 // Writing packed bytes as a sheet.
-ghost use Rattle.std.specs.Prelude.{◌≡◌, ◌+◌, ◌≤◌, ◌++◌, length, take, drop, decimal};
+ghost use Rattle.std.specs.Prelude.{◌≡◌, ◌+◌, ◌≤◌, ◌++◌, length, take, drop, decimal, IfOk};
 ghost use Rattle.marks.specs.Refusals.{Kept};
 ghost use Rattle.sheets.specs.Rendering.{marks_of, marks_text, line_text, render};
-ghost use Rattle.sheets.specs.Written.{put_in_front, Writes};
+ghost use Rattle.sheets.specs.Written.{put_in_front, Writes, IsSheetOf};
 
 use crate::MOST_BYTES;
 use arrayvec::ArrayString;
@@ -92,6 +92,7 @@ fn write_lines<T: Table>(table: &T, text: &mut [u8])
 pub fn write_sheet(bytes: &[u8], width: Width, text: &mut [u8]) -> Result<usize, Refusal>
     ensures answer { Writes bytes.now width.number text.old text.new result }
     ensures kept { Kept text.old text.new result }
+    ensures sheet { IfOk result (λ size. IsSheetOf width.number bytes.now (take size text.new)) }
 {
     // The sheet is measured before a byte of it is written.
     let table = Packed::new(bytes, width)?;

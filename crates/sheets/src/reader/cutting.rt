@@ -1,7 +1,7 @@
 // What a reader does.
-ghost use Rattle.std.specs.Prelude.{◌≡◌, ℕ, ◌+◌, ◌<◌, ◌≤◌, ◌==◌, true, false, Bool, List, ◌∷◌, length, take, drop, slice_index, Decides, take_while};
+ghost use Rattle.std.specs.Prelude.{◌≡◌, ℕ, ◌+◌, ◌<◌, true, List, ◌∷◌, length, drop, slice_index, Decides};
 ghost use Rattle.std.specs.Char.{is_ascii_digit};
-ghost use Rattle.sheets.specs.Cutting.{line_end, line_after, column_after, StandsAt, PartAt, Cut, Digits, Gap, Break, parts_of};
+ghost use Rattle.sheets.specs.Cutting.{line_end, Digits, PartAt, StandsAt, Cut};
 
 use crate::piece::{Piece, Place};
 use crate::reader::Reader;

@@ -1,4 +1,4 @@
-use Rattle.std.proofs.Common.{◌≡◌, ◌+◌, None, ap, ◌∙◌, arith}
+use Rattle.std.proofs.Common.{◌≡◌, ◌+◌, None, get_or, ap, ◌∙◌, rules, arith}
 use Rattle.std.proofs.lemmas.List.{take_all}
 use Rattle.marks.specs.Refusals.{range_refusal}
 use Rattle.sheets.specs.Reading.{worth}
@@ -20,8 +20,9 @@ returns c =
     let ds = c.args.digits.now in
     let number : c.loop-digit.number ≡ worth ds = c.loop-digit.invariant.number ∙ ap worth (take_all c.loop-digit.digit-index ds c.loop-digit-test.false) in
     let first = in_range ds 0 c.requires.all c.requires.some in
-    let some = worth_some ds (omega (arith, c.if-digits-eq48.false)) in
+    let other : get_or ds 0 0 ≡ 48 → ⊥ = search rules in
+    let some = worth_some ds (omega (arith, other)) in
     let low = c.loop-digit.invariant.low in
-    let good = good_number c.args.width.number ds c.if-digits-eq48.false (omega arith) in
+    let good = good_number c.args.width.number ds other (omega arith) in
     let due : range_refusal 32 c.from-2.result ≡ None = in_due c.from-2.result (omega (arith, c.from-2.ensures)) (omega (arith, c.from-2.ensures, c.args.width.range)) in
     grind arith

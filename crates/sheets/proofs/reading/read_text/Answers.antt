@@ -17,7 +17,7 @@ loop-piece-init c = record {
   text = c.new-reader.ensures.text;
   passed =
       rw c.new-reader.ensures.start
-      (begin c.args.width.number c.args.text.now c.args.memory.now c.new-sheet.result (ap (λ w. w.number) c.new-sheet.ensures.0) c.new-sheet.ensures.1 c.new-sheet.ensures.2 c.new-sheet.ensures.3);
+      (begin c.args.width.number c.args.text.now c.args.memory.now c.new-sheet.result (ap (λ w. w.number) c.new-sheet.ensures.width) c.new-sheet.ensures.row c.new-sheet.ensures.left c.new-sheet.ensures.count);
 }
 
 pub take-requires : goal.take-requires

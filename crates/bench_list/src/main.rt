@@ -1,0 +1,83 @@
+// Times two long lists: of a short table, and of a long one. What they hold goes to standard output; how long they take, which varies, to standard error.
+#![tactic(auto)]
+
+use finder::whole_list;
+use limits::Size;
+use marks::{MOST_MARKS, MarkSet, Refusal, Support, Width};
+use std::alloc::{AllocError, Global};
+use std::io;
+use std::time::Instant;
+use tables::Packed;
+
+// Why the program ends early.
+#[derive(Debug, Drop)]
+enum Fault {
+    Refused(Refusal),
+    Failed(io::Error),
+}
+
+impl From<Refusal> for Fault {
+    fn from(refusal: Refusal) -> Fault {
+        Fault::Refused(refusal)
+    }
+}
+
+impl From<io::Error> for Fault {
+    fn from(error: io::Error) -> Fault {
+        Fault::Failed(error)
+    }
+}
+
+impl From<AllocError> for Fault {
+    fn from(error: AllocError) -> Fault {
+        Fault::Failed(error.into())
+    }
+}
+
+// The bytes of a charge for each mark, which has all marks but that one: every set but that of all marks is then listed.
+fn complements(heap: Global, width: Width) -> Result<Vec<u8>, AllocError> {
+    let all = MarkSet::up_to(width);
+    let mut bytes: Vec<u8> = Vec::new(heap);
+    for mark in all.marks() {
+        bytes.extend_from_slice(&all.without(mark).bits().to_le_bytes())?;
+    }
+    Ok(bytes)
+}
+
+// The bytes of so many charges that are all unlike, and have about half of the marks each.
+fn scattered(heap: Global, count: u32, width: Width) -> Result<Vec<u8>, AllocError> {
+    let all = MarkSet::up_to(width);
+    let mut bytes: Vec<u8> = Vec::new(heap);
+    for number in 0..count {
+        let row = MarkSet::from_bits(number.wrapping_mul(2_654_435_761));
+        bytes.extend_from_slice(&row.intersection(all).bits().to_le_bytes())?;
+    }
+    Ok(bytes)
+}
+
+// Lists the closed sets of a table that at least so many of its charges hold.
+fn measure(rt: &HostRuntime, name: &str, table: &Packed, least: u64) -> Result<(), Fault> {
+    let any = Size::new(u64::from(MOST_MARKS));
+    let start = Instant::now(rt)?;
+    let list = whole_list(rt.alloc(), table, &any, Support::new(least)?)?;
+    let took = start.elapsed(rt)?;
+    let (seconds, millis) = (took.as_secs(), took.subsec_millis());
+    let (sets, opened) = (list.records.len(), list.opened);
+    println!(rt; "{name}: sets {sets} opened {opened}")?;
+    eprintln!(rt; "{name}: {seconds}.{millis:03} seconds")?;
+    Ok(())
+}
+
+fn main(rt: HostRuntime) -> Result<(), Fault> {
+    let width = Width::new(17)?;
+    let bytes = complements(rt.alloc(), width)?;
+    measure(
+        &rt,
+        "complements",
+        &Packed::new(bytes.as_slice(), width)?,
+        1,
+    )?;
+    let width = Width::new(24)?;
+    let bytes = scattered(rt.alloc(), 400, width)?;
+    measure(&rt, "scattered", &Packed::new(bytes.as_slice(), width)?, 6)
+}

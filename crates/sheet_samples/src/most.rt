@@ -1,0 +1,98 @@
+// Texts of the most bytes, and sheets of the most charges.
+use marks::{Reason, Refusal, Width};
+use sheets::{read_sheet, write_sheet};
+use std::alloc::Global;
+use std::test::Fail;
+
+// What reading so many empty lines into so many bytes that held 7 answers, and whether then the first `packed` of them hold 0 and the others 7.
+fn read_empty(
+    heap: Global,
+    lines: usize,
+    room: usize,
+    packed: usize,
+) -> Result<(Result<usize, Refusal>, bool), Fail> {
+    let text = vec![in heap; b'\n'; lines]?;
+    let mut memory = vec![in heap; 7; room]?;
+    let answer = read_sheet(text.as_slice(), Width::new(1)?, memory.as_mut_slice());
+    let mut held = memory.iter().enumerate();
+    let as_due = held.all(|(at, byte)| *byte == if at < packed { 0 } else { 7 });
+    Ok((answer, as_due))
+}
+
+#[test]
+fn at_most_65536_lines(rt: HostRuntime) -> Result<(), Fail> {
+    let too_many = Refusal::at_line(Reason::TooMany, 65_537, 1);
+    let no_place = Refusal::at_line(Reason::NoPlace, 65_536, 1);
+    for (lines, room, packed, answer) in [
+        (65_536, 262_144, 262_144, Ok(65_536)),
+        (65_537, 262_144, 262_144, Err(too_many)),
+        (65_537, 262_148, 262_144, Err(too_many)),
+        (65_537, 262_143, 262_140, Err(no_place)),
+        (65_536, 262_143, 262_140, Err(no_place)),
+    ] {
+        assert_eq!(rt;
+            read_empty(rt.alloc(), lines, room, packed)?,
+            (answer, true),
+            "{lines}, {room}"
+        );
+    }
+    Ok(())
+}
+
+// Texts of one byte over and over: a fault counts only where the text is not too long.
+#[test]
+fn at_most_1048576_bytes(rt: HostRuntime) -> Result<(), Fail> {
+    let long = Refusal::unplaced(Reason::Long);
+    for (byte, size, refusal) in [
+        (b'x', 1_048_576, Refusal::at_line(Reason::BadByte, 1, 1)),
+        (b'x', 1_048_577, long),
+        (b'1', 1_048_576, Refusal::at_line(Reason::BadNumber, 1, 1)),
+        (b'1', 1_048_577, long),
+        (b'\n', 1_048_576, Refusal::at_line(Reason::NoPlace, 1, 1)),
+        (b'\n', 1_048_577, long),
+    ] {
+        let text = vec![in rt.alloc(); byte; size]?;
+        let mut memory = [7; 3];
+        let answer = read_sheet(text.as_slice(), Width::new(32)?, &mut memory);
+        assert_eq!(rt; (answer, memory), (Err(refusal), [7; 3]), "{byte}, {size}");
+    }
+    Ok(())
+}
+
+// 65,536 lines of 16 bytes are the longest sheet. With a line one byte longer it is too long.
+#[test]
+fn the_longest_sheet(rt: HostRuntime) -> Result<(), Fail> {
+    let width = Width::new(10)?;
+    let mut sheet = Vec::new(rt.alloc());
+    for _ in 0..65_536 {
+        sheet.extend_from_slice(b"1 2 3 4 5 6 7 8\n")?;
+    }
+    let mut packed = vec![in rt.alloc(); 7; 262_144]?;
+    assert_eq!(rt;
+        read_sheet(sheet.as_slice(), width, packed.as_mut_slice()),
+        Ok(65_536)
+    );
+    let mut text = vec![in rt.alloc(); b'*'; 1_048_576]?;
+    assert_eq!(rt;
+        write_sheet(packed.as_slice(), width, text.as_mut_slice()),
+        Ok(1_048_576)
+    );
+    assert!(rt; text.as_slice() == sheet.as_slice());
+    // The first charge becomes `1 2 3 4 5 6 7 10`.
+    for (byte, new) in packed.iter_mut().zip([127, 2]) {
+        *byte = new;
+    }
+    let long = Err(Refusal::unplaced(Reason::Long));
+    assert_eq!(rt;
+        write_sheet(packed.as_slice(), width, text.as_mut_slice()),
+        long
+    );
+    packed.extend_from_slice(&[0; 4])?;
+    let too_many = Err(Refusal::unplaced(Reason::TooMany));
+    assert_eq!(rt;
+        write_sheet(packed.as_slice(), width, text.as_mut_slice()),
+        too_many
+    );
+    assert!(rt; text.as_slice() == sheet.as_slice());
+    Ok(())
+}

@@ -31,6 +31,7 @@ pub fn whole_list<T: Table, W: Limit>(
     let mut finder = Finder::begin(table, limit, support);
     let mut records = Vec::new(alloc);
     let mut slot = [0; RECORD_BYTES];
+    // A `loop`, and no `while let`, since End carries what was opened.
     loop {
         // No call is refused, since the slot has the length of a record.
         match finder.next(&mut slot).unwrap() {

@@ -29,7 +29,7 @@ pub struct Number<K, const MOST: u32> {
     ghost range: { InRange MOST number },
 }
 
-// By hand: a derived `Clone` was tried, and is refused for a type with a parameter and a ghost field (`derive-over-ghost-field`).
+// By hand: a derived `Clone` was tried, by `derive` and by `derive_where`, and is refused for a type with a parameter and a ghost field (`derive-over-ghost-field`).
 impl<K, const MOST: u32> Clone for Number<K, MOST> {
     ghost is_clone = { λ x y. y ≡ x };
 

@@ -38,7 +38,7 @@ pub struct Refusal {
 }
 
 impl Reason {
-    // A method, as a refusal's number is, and not `From`, which is no plainer.
+    // A method, and not `From`: `u64::from(reason)` would not say which number it is, so it is no plainer.
     /// The number by which users know the reason: no other reason has it.
     pub fn number(self) -> u64
         ensures value { result ≡ number_of self }
@@ -81,6 +81,7 @@ impl Refusal {
         self.reason
     }
 
+    // A method for the same reason.
     /// The number of its reason.
     pub fn number(self) -> u64
         ensures { result ≡ number_of self.reason }

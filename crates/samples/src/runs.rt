@@ -1,9 +1,10 @@
 // Finders: slots, looking, rewinding, the end of a list, transcripts and whole lists.
 use crate::layers::CHARGES;
+use crate::records::record;
 use finder::{Finder, Move, Step, Told, transcript, whole_list};
 use found::{RECORD_BYTES, Record};
 use limits::{Limit, Size};
-use marks::{MarkSet, Reason, Refusal, Support, Width};
+use marks::{Reason, Refusal, Support, Width};
 use std::alloc::Global;
 use std::test::Fail;
 use tables::{Packed, Table};
@@ -26,15 +27,6 @@ fn look<T: Table, W: Limit>(finder: &Finder<T, W>) -> Result<Record, Refusal> {
     let mut slot = [0; RECORD_BYTES];
     finder.look(&mut slot)?;
     Ok(Record::from_bytes(&slot))
-}
-
-fn record(bits: u32, support: u32, ordinal: u64, opened: u64) -> Record {
-    Record {
-        set: MarkSet::from_bits(bits),
-        support,
-        ordinal,
-        opened,
-    }
 }
 
 fn found(bits: u32, support: u32, ordinal: u64, opened: u64) -> (Step, Record) {

@@ -103,6 +103,7 @@ impl<T: Table, W: Limit> Finder<T, W> {
         ensures ready { IfSome result (λ start. Ready (query_of T.Table.meaning W.Limit.allowed self.now) start.node) }
         ensures turned { (k : ℕ) → Stands T.Table.meaning W.Limit.allowed self.now k → opened.old ≡ option_map_or (λ last. last.found.opened) self.now.last 0 → Turned (query_of T.Table.meaning W.Limit.allowed self.now) k result opened.new }
     {
+        // A `match`, and no `map_or_else`: its two closures could not both hold `opened`, which is lent to be changed.
         match self.last {
             Some(last) => self.query.turn_aside(last, opened),
             None => self.query.start_at_root(opened),

@@ -1,0 +1,5 @@
+pub mod Rooms
+pub mod Orders
+pub mod Packing
+pub mod Listing
+pub mod Answered

@@ -1,0 +1,35 @@
+-- The lines of a list.
+use Rattle.std.proofs.Common.{◌≡◌, ℕ, ◌+◌, ◌<◌, ◌≤◌, List, [], ◌∷◌, ◌++◌, length, get_or, take, sym, ap, ◌∙◌, append-nil}
+use Rattle.std.specs.List.{flat_map, range_with_len}
+use Rattle.std.proofs.lemmas.List.{take_more, take_all, length-map}
+use Rattle.std.proofs.lemmas.List.Concat.{flat_map-append}
+use Rattle.std.proofs.lemmas.List.FromFn.{length-range_with_len}
+use Rattle.found.specs.declared.record.Record.{Record}
+use Rattle.found.specs.Lines.{end_text}
+use Rattle.found.specs.Records.{no_record}
+use Rattle.closed.specs.Closed.{Query}
+use Rattle.finder.specs.declared.whole.WholeList.{WholeList}
+use Rattle.finder.specs.Found.{how_many, records}
+use Rattle.finder.specs.Whole.{WholeOf}
+use Rattle.listed.specs.Answering.{record_text, list_text}
+
+-- the lines of the first k records
+abbrev pub lines_of : List Record → ℕ → List ℕ
+lines_of rs k = flat_map record_text (take k rs)
+
+pub line_more : (rs : List Record) (k : ℕ) (r : Record) → k < length rs → r ≡ get_or rs k no_record → lines_of rs (k + 1) ≡ lines_of rs k ++ record_text r
+line_more rs k r h e =
+    ap (flat_map record_text) (take_more rs k no_record h) ∙ flat_map-append record_text (take k rs) (get_or rs k no_record ∷ [])
+    ∙ ap (λ (t : List ℕ). lines_of rs k ++ t) (append-nil (record_text (get_or rs k no_record)) ∙ ap record_text (sym e))
+
+counted : (q : Query) → length (records q) ≡ how_many q
+unfolding records
+counted q = length-map (range_with_len 0 (how_many q)) _ ∙ length-range_with_len 0 (how_many q)
+
+pub whole_text : (q : Query) (whole : WholeList) (k : ℕ) → WholeOf q whole → length whole.records.items ≤ k
+    → lines_of whole.records.items k ++ end_text (length whole.records.items) whole.opened ≡ list_text q
+unfolding list_text
+whole_text q whole k w h =
+    let lines : lines_of whole.records.items k ≡ flat_map record_text (records q) = ap (flat_map record_text) (take_all k whole.records.items h ∙ w.all_records) in
+    let sets : length whole.records.items ≡ how_many q = ap length w.all_records ∙ counted q in
+    λ i. lines i ++ end_text (sets i) (w.all_nodes i)

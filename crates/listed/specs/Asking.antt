@@ -1,0 +1,67 @@
+-- What an input asks for: an order line, and the sheet behind it.
+use Rattle.std.specs.Prelude.{◌≡◌, ℕ, ◌*◌, ◌≤◌, List, [], ◌∷◌, length, take, drop, None, Option, nat_le}
+use Rattle.marks.specs.declared.refusal.Reason.TheVariants.{Long}
+use Rattle.marks.specs.declared.refusal.Refusal.{Refusal}
+use Rattle.marks.specs.Refusals.{unplaced, due_if, first_due}
+use Rattle.tables.specs.Meaning.{Meaning}
+use Rattle.tables.specs.Packed.{row_bytes, packed_refusal}
+use Rattle.tables.specs.Layers.{windowed}
+use Rattle.limits.specs.Limits.{small}
+use Rattle.closed.specs.Closed.{Query, query}
+use Rattle.sheets.specs.OrderLines.{number_start, number_in, numbers_of, numbers_in, order_refusal}
+use Rattle.sheets.specs.Reading.{Reading, reading}
+use Rattle.listed.specs.declared.asking.Asked.{Asked}
+
+-- an input has fewer bytes than this
+abbrev pub input_limit : ℕ
+input_limit = 65536
+
+-- so many bytes of memory there are for a sheet: room for 4,096 charges
+abbrev pub sheet_room : ℕ
+sheet_room = row_bytes * 4096
+
+-- the sheet: what stands behind the order line
+abbrev pub sheet_in : List ℕ → List ℕ
+sheet_in input = drop (number_start input 5) input
+
+-- what comes of reading it as a text of its own, at the width of the order
+unfoldable pub sheet_reading : List ℕ → Reading
+sheet_reading input = reading (number_in input 0) sheet_room (sheet_in input)
+
+-- the rows of its charges
+abbrev pub rows_in : List ℕ → List ℕ
+rows_in input = (sheet_reading input).rows
+
+-- the fault of an input: its length is judged first, then its order line, then its sheet
+unfoldable pub input_refusal : List ℕ → Option Refusal
+input_refusal input =
+    first_due
+    (due_if (nat_le input_limit (length input)) (unplaced Long)
+    ∷ order_refusal input
+    ∷ (sheet_reading input).refusal
+    ∷ [])
+
+-- the list of sets of at most so many marks, with this least support, in the window of so many charges from a first one on
+abbrev pub query_of : Meaning → ℕ → ℕ → ℕ → ℕ → Query
+query_of charges least most first count = query (windowed first count charges) (small most) least
+
+-- the charges of an input
+abbrev pub charges_in : List ℕ → Meaning
+charges_in input = record { width = number_in input 0; rows = rows_in input }
+
+-- the list that an input asks for
+abbrev pub query_in : List ℕ → Query
+query_in input = query_of (charges_in input) (number_in input 1) (number_in input 2) (number_in input 3) (number_in input 4)
+
+-- the order and the count of charges are those of the input
+abbrev pub Asks : List ℕ → Asked → Type 0
+Asks input asked = (numbers_of asked.order ≡ numbers_in input) × (asked.count ≡ length (rows_in input))
+
+-- the bytes of the charges, in the front of memory
+abbrev pub charge_bytes : List ℕ → Asked → List ℕ
+charge_bytes memory asked = take (row_bytes * asked.count) memory
+
+-- the charges are a packed table in the front of memory
+pub record IsPacked (memory : List ℕ) (asked : Asked) : Type 0 where
+  pub within : row_bytes * asked.count ≤ length memory
+  pub accepted : packed_refusal (charge_bytes memory asked) asked.order.width.number ≡ None

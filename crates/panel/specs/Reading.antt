@@ -1,0 +1,19 @@
+-- Reading a sheet for the panel.
+use Rattle.std.specs.Prelude.{ℕ, List, [], ◌∷◌, length, Option, Result}
+use Rattle.marks.specs.declared.refusal.Refusal.{Refusal}
+use Rattle.marks.specs.Numbers.{most_marks}
+use Rattle.marks.specs.Refusals.{first_due, range_refusal}
+use Rattle.sheets.specs.Reading.{reading, packed_into}
+use Rattle.panel.specs.Answers.{result_of, unless_due}
+
+-- reading a text as a sheet of the width n into memory of so many bytes
+abbrev pub read_refusal : ℕ → ℕ → List ℕ → Option Refusal
+read_refusal n room text = first_due (range_refusal most_marks n ∷ (reading n room text).refusal ∷ [])
+
+-- the refusal, or how many charges were packed
+unfoldable pub read_result : ℕ → ℕ → List ℕ → Result ℕ Refusal
+read_result n room text = result_of (read_refusal n room text) (length (reading n room text).rows)
+
+-- What memory then holds: the rows that were packed, and past them what it held; and all of that where the width is out of range.
+unfoldable pub read_memory : ℕ → List ℕ → List ℕ → List ℕ
+read_memory n text memory = unless_due (range_refusal most_marks n) (packed_into (reading n (length memory) text).rows memory) memory

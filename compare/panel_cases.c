@@ -6,13 +6,11 @@
  *
  * What a call is lent is allocated at its exact size, so that a sanitizer sees each byte that is touched beyond it.
  */
+#include "../host/ravenbureau_panel.h"
+
 #include <stdint.h>
 #include <stdio.h>
 #include <stdlib.h>
-
-uint64_t host_read(const uint8_t *text, size_t text_length, uint64_t n, uint8_t *memory, size_t memory_length);
-uint64_t host_list(const uint8_t *rows, size_t rows_length, uint64_t n, uint64_t theta, uint64_t s, uint8_t *memory,
-                   size_t memory_length);
 
 enum { READ, LIST };
 

@@ -3,3 +3,4 @@ pub mod Orders
 pub mod Packing
 pub mod Listing
 pub mod Answered
+pub mod Understanding

@@ -1,5 +1,5 @@
 -- What is printed for an input.
-use Rattle.std.specs.Prelude.{ℕ, List, ◌++◌, length, flat_map, Some, None, Option}
+use Rattle.std.specs.Prelude.{◌≡◌, ℕ, List, ◌++◌, length, flat_map, Some, None, Option}
 use Rattle.marks.specs.declared.refusal.Refusal.{Refusal}
 use Rattle.marks.specs.Refusals.{number_of}
 use Rattle.found.specs.declared.record.Record.{Record}
@@ -7,7 +7,7 @@ use Rattle.found.specs.Lines.{line_text, fault_text, end_text}
 use Rattle.closed.specs.Closed.{Query}
 use Rattle.finder.specs.Found.{how_many, records}
 use Rattle.finder.specs.Runs.{nodes_of}
-use Rattle.listed.specs.Asking.{input_refusal, query_in}
+use Rattle.listed.specs.Asking.{input_refusal, query_of, query_in, IsAsked, AsksUnlessFaulty}
 
 -- the line of a record: the marks of its set, and its support
 abbrev pub record_text : Record → List ℕ
@@ -25,3 +25,9 @@ fault_or_list None q = list_text q
 -- what is printed for an input
 unfoldable pub answer_text : List ℕ → List ℕ
 answer_text input = fault_or_list (input_refusal input) (query_in input)
+
+-- Whatever an input asks for is listed, and what asks for nothing has a fault.
+pub record AnswersAsked (input text : List ℕ) : Type 0 where
+  pub lists : (n least most first count : ℕ) (rows : List ℕ) → IsAsked n least most first count rows input
+      → text ≡ list_text (query_of (record { width = n; rows = rows }) least most first count)
+  pub faults : AsksUnlessFaulty input

@@ -1,24 +1,29 @@
 -- What an input asks for: an order line, and the sheet behind it.
-use Rattle.std.specs.Prelude.{◌≡◌, ℕ, ◌*◌, ◌≤◌, List, [], ◌∷◌, length, take, drop, None, Option, nat_le}
+use Rattle.std.specs.Prelude.{◌≡◌, ℕ, ◌*◌, ◌^◌, ◌<◌, ◌≤◌, List, [], ◌∷◌, ◌++◌, length, take, drop, None, Option, nat_le, slice_index}
 use Rattle.marks.specs.declared.refusal.Reason.TheVariants.{Long}
 use Rattle.marks.specs.declared.refusal.Refusal.{Refusal}
+use Rattle.marks.specs.Numbers.{most_marks, most_charges, InRange}
 use Rattle.marks.specs.Refusals.{unplaced, due_if, first_due}
 use Rattle.tables.specs.Meaning.{Meaning}
 use Rattle.tables.specs.Packed.{row_bytes, packed_refusal}
 use Rattle.tables.specs.Layers.{windowed}
 use Rattle.limits.specs.Limits.{small}
 use Rattle.closed.specs.Closed.{Query, query}
-use Rattle.sheets.specs.OrderLines.{number_start, number_in, numbers_of, numbers_in, order_refusal}
+use Rattle.sheets.specs.OrderLines.{number_ends, ended_numbers, number_start, number_in, numbers_of, numbers_in, order_refusal}
 use Rattle.sheets.specs.Reading.{Reading, reading}
+use Rattle.sheets.specs.Rendering.{render}
 use Rattle.listed.specs.declared.asking.Asked.{Asked}
 
 -- an input has fewer bytes than this
 abbrev pub input_limit : ℕ
 input_limit = 65536
 
--- so many bytes of memory there are for a sheet: room for 4,096 charges
+-- a sheet has no more charges than this, and there is memory for so many
+abbrev pub most_rows : ℕ
+most_rows = 4096
+
 abbrev pub sheet_room : ℕ
-sheet_room = row_bytes * 4096
+sheet_room = row_bytes * most_rows
 
 -- the sheet: what stands behind the order line
 abbrev pub sheet_in : List ℕ → List ℕ
@@ -56,6 +61,28 @@ query_in input = query_of (charges_in input) (number_in input 1) (number_in inpu
 -- the order and the count of charges are those of the input
 abbrev pub Asks : List ℕ → Asked → Type 0
 Asks input asked = (numbers_of asked.order ≡ numbers_in input) × (asked.count ≡ length (rows_in input))
+
+-- The input is an order line of these five numbers, each in its range, and behind it the sheet of these rows, each a set of marks up to the width n; there are not too many rows or bytes.
+pub record IsAsked (n least most first count : ℕ) (rows input : List ℕ) : Type 0 where
+  pub written : input ≡ ended_numbers number_ends (n ∷ least ∷ most ∷ first ∷ count ∷ []) ++ render rows
+  pub width : InRange most_marks n
+  pub support : InRange most_charges least
+  pub size : most ≤ most_marks
+  pub start : InRange most_charges first
+  pub charges : count ≤ most_charges
+  pub within : (k : ℕ) → slice_index rows k < 2 ^ n
+  pub few : length rows ≤ most_rows
+  pub short : length input < input_limit
+
+-- whatever an input asks for is what is understood
+abbrev pub IsUnderstood : List ℕ → Type 0
+IsUnderstood input = (n least most first count : ℕ) (rows : List ℕ) → IsAsked n least most first count rows input
+    → (input_refusal input ≡ None) × (query_in input ≡ query_of (record { width = n; rows = rows }) least most first count)
+
+-- what has no fault asks for something
+abbrev pub AsksUnlessFaulty : List ℕ → Type 0
+AsksUnlessFaulty input = input_refusal input ≡ None
+    → (n : ℕ) × (least : ℕ) × (most : ℕ) × (first : ℕ) × (count : ℕ) × (rows : List ℕ) × IsAsked n least most first count rows input
 
 -- the bytes of the charges, in the front of memory
 abbrev pub charge_bytes : List ℕ → Asked → List ℕ

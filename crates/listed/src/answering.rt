@@ -4,7 +4,7 @@ ghost use Rattle.marks.specs.Refusals.{number_of};
 ghost use Rattle.found.specs.Lines.{fault_text};
 ghost use Rattle.tables.specs.Packed.{packed_meaning};
 ghost use Rattle.listed.specs.Asking.{query_of};
-ghost use Rattle.listed.specs.Answering.{answer_text, list_text};
+ghost use Rattle.listed.specs.Answering.{answer_text, list_text, AnswersAsked};
 
 use crate::asking::{read, sheet_memory};
 use crate::printing::{add_end, add_fault, add_set};
@@ -41,7 +41,8 @@ fn list(alloc: Global, order: Order, charges: &Packed<'_>) -> Result<Vec<u8>, Al
 /// What is printed for an input: the line of its fault, or else a line for each set of the list that it asks for, and the end line.
 /// The one error is want of memory, which is no fault of the input.
 pub fn answer(alloc: Global, input: &[u8]) -> Result<Vec<u8>, AllocError>
-    ensures { IfOk result (λ text. text.items ≡ answer_text input.now) }
+    ensures text { IfOk result (λ text. text.items ≡ answer_text input.now) }
+    ensures asked { IfOk result (λ text. AnswersAsked input.now text.items) }
 {
     let mut memory = sheet_memory(alloc)?;
     match read(input, &mut memory) {

@@ -2,7 +2,7 @@
 ghost use Rattle.std.specs.Prelude.{◌≡◌, IfOk, length};
 ghost use Rattle.marks.specs.Refusals.{Answers};
 ghost use Rattle.tables.specs.Packed.{packed_rows, packed_meaning};
-ghost use Rattle.listed.specs.Asking.{input_refusal, sheet_room, rows_in, charge_bytes, Asks, IsPacked};
+ghost use Rattle.listed.specs.Asking.{input_refusal, sheet_room, rows_in, charge_bytes, Asks, AsksUnlessFaulty, IsPacked, IsUnderstood};
 
 use marks::{Reason, Refusal};
 use sheets::{Order, read_order, read_sheet};
@@ -45,6 +45,8 @@ pub(crate) fn read(input: &[u8], memory: &mut [u8]) -> Result<Asked, Refusal>
     requires { length memory.old ≡ sheet_room }
     ensures answer { Answers (input_refusal input.now) (Asks input.now) result }
     ensures charges { IfOk result (λ asked. IsPacked memory.new asked × (packed_rows (charge_bytes memory.new asked) ≡ rows_in input.now)) }
+    ensures understood { IsUnderstood input.now }
+    ensures faults { AsksUnlessFaulty input.now }
 {
     if input.len() >= INPUT_LIMIT {
         return Err(Refusal::unplaced(Reason::Long));

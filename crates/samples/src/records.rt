@@ -3,7 +3,7 @@ use found::{RECORD_BYTES, Record, RecordBytes, read_back};
 use marks::{MarkSet, Reason, Refusal};
 use std::test::Fail;
 
-pub fn record(bits: u32, support: u32, ordinal: u64, opened: u64) -> Record {
+pub(crate) fn record(bits: u32, support: u32, ordinal: u64, opened: u64) -> Record {
     Record {
         set: MarkSet::from_bits(bits),
         support,

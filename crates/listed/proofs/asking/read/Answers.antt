@@ -2,6 +2,7 @@ use Rattle.std.proofs.Common.{◌≡◌, length, None, sym, ap, ◌∙◌, arith
 use Rattle.sheets.specs.Reading.{Reading, reading, packed_into}
 use Rattle.listed.proofs.Orders.{sheet_within, too_long, order_fault, sheet_fault, behind, same_reading, sheet_refused}
 use Rattle.listed.proofs.Packing.{packed}
+use Rattle.listed.proofs.Understanding.{long_understood, understood, faulty, asks}
 use Rattle.listed.proofs.asking.read.Goals as goal
 
 pub returns-then-input-ge-INPUT_LIMIT-clause-answer : goal.returns-then-input-ge-INPUT_LIMIT-clause-answer
@@ -39,3 +40,27 @@ returns-clause-charges c =
     let put : c.read_sheet.new.memory ≡ packed_into r.rows c.args.memory.now = c.read_sheet.ensures.memory in
     let p = packed (record { order = c.in_ok-order.order; count = c.in_ok-count.count }) (behind c.in_ok-order.order c.args.input.now) c.args.memory.now c.read_sheet.new.memory none count put in
     (p.0, p.1 ∙ ap (λ (s : Reading). s.rows) f)
+
+pub returns-then-input-ge-INPUT_LIMIT-clause-understood : goal.returns-then-input-ge-INPUT_LIMIT-clause-understood
+returns-then-input-ge-INPUT_LIMIT-clause-understood c = long_understood c.args.input.now c.if-input-ge-INPUT_LIMIT.true
+
+pub returns-in_err-order-clause-understood : goal.returns-in_err-order-clause-understood
+returns-in_err-order-clause-understood c = understood c.args.input.now c.read_order.result c.read_order.ensures.answer c.read_order.ensures.lines
+
+pub returns-in_err-count-clause-understood : goal.returns-in_err-count-clause-understood
+returns-in_err-count-clause-understood c = understood c.args.input.now c.read_order.result c.read_order.ensures.answer c.read_order.ensures.lines
+
+pub returns-clause-understood : goal.returns-clause-understood
+returns-clause-understood c = understood c.args.input.now c.read_order.result c.read_order.ensures.answer c.read_order.ensures.lines
+
+pub returns-then-input-ge-INPUT_LIMIT-clause-faults : goal.returns-then-input-ge-INPUT_LIMIT-clause-faults
+returns-then-input-ge-INPUT_LIMIT-clause-faults c = faulty c.args.input.now _ (too_long c.args.input.now c.if-input-ge-INPUT_LIMIT.true)
+
+pub returns-in_err-order-clause-faults : goal.returns-in_err-order-clause-faults
+returns-in_err-order-clause-faults c = faulty c.args.input.now _ (order_fault c.args.input.now c.if-input-ge-INPUT_LIMIT.false c.in_err-order.field-0.0 c.in_err-order.ensures.answer)
+
+pub returns-in_err-count-clause-faults : goal.returns-in_err-count-clause-faults
+returns-in_err-count-clause-faults c = asks c.args.input.now c.in_ok-order.order c.if-input-ge-INPUT_LIMIT.false c.in_ok-order.ensures.answer c.in_ok-order.ensures.lines
+
+pub returns-clause-faults : goal.returns-clause-faults
+returns-clause-faults c = asks c.args.input.now c.in_ok-order.order c.if-input-ge-INPUT_LIMIT.false c.in_ok-order.ensures.answer c.in_ok-order.ensures.lines

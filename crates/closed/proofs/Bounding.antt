@@ -9,7 +9,7 @@ use Rattle.marks.proofs.Algebra.{has_shr, low_same, below_from_has}
 use Rattle.marks.specs.Members.{has_past, has_below}
 use Rattle.marks.specs.SetOrder.{before_irrefl, before_trans}
 use Rattle.closed.specs.Families.{Listed, Agree, Follows, list_of, turns, turn_count}
-use Rattle.closed.proofs.Ordered.{pairwise_get_or, place_lt, list_ordered, list_has, place_listed}
+use Rattle.closed.proofs.Ordered.{place_lt, list_ordered, list_has, place_listed}
 use Rattle.closed.proofs.Walking.{agree_sym, agree_less, turn_agree}
 use Rattle.closed.proofs.Stepping.{after_turns}
 use Rattle.closed.proofs.Turning.{turns_below, turns_are}
@@ -70,7 +70,7 @@ module _ (p : ℕ → Bool) (n : ℕ) where
   entries_follow k l =
       record {
         listed = place_listed p n (k + 1) l;
-        after = pairwise_get_or Before (list_of p n) k (k + 1) 0 (list_ordered p n) (omega arith) l;
+        after = list_ordered p n k (k + 1) 0 (omega arith) l;
         between = λ z h a b. between z (list_has p n z h) a b;
       }
     where

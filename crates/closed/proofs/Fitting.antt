@@ -1,14 +1,14 @@
 -- What fits a node, and a node narrowed to what the sets that fit it have in common.
 use Rattle.std.proofs.Common.{◌≡◌, ℕ, ◌^◌, ◌<◌, Bool, true, false, not, ◌||◌, eqb, ltb, ◌⊎◌, List, sym, refl, ap, ◌∙◌, subst, inl, inr, ⊎_elim, arith}
 use lib.Bits.{bit_and}
-use Rattle.std.specs.List.{ContainsAt as Has}
+use Rattle.std.specs.List.{ContainsAt as Has, list_any}
 use Rattle.std.proofs.lemmas.Bool.{both_ways, cases_lt, cases_Bool, lt-ltb, eqb-true, eq-eqb, and_parts, and_from, or_right, or_cases, not-true, not-false, not_from_true, not_from_false}
 use Rattle.marks.specs.Sets.{has, no_marks, both, part_of, only, with_bit, picked}
 use Rattle.marks.proofs.Algebra.{disjoint_from_has}
 use Rattle.marks.specs.Members.{has_and, has_none, has_past, has_below}
 use Rattle.marks.specs.Parts.{part_fact, part_test, part_has, part_from_has, part_antisym, part_le, part_or_left, has_with}
 use Rattle.marks.proofs.Picks.{has_picked, picked_below}
-use Rattle.closed.specs.Families.{Listed, Fits, any, list_of, fits_node, fitting, dead, in_every, in_none}
+use Rattle.closed.specs.Families.{Listed, Fits, list_of, fits_node, fitting, dead, in_every, in_none}
 use Rattle.closed.specs.Walks.{Narrowed, Exact}
 use Rattle.closed.proofs.Ordered.{any_some, some_any, none_any, any_none, has_filter, has_from_filter, list_has, list_only}
 
@@ -35,40 +35,40 @@ picked_false test n b l h =
 
 module _ (n : ℕ) (xs : List ℕ) where
   pub in_every_below : in_every n xs < 2 ^ n
-  in_every_below = picked_below (λ b. not (any (λ x. not (has x b)) xs)) n
+  in_every_below = picked_below (λ b. not (list_any (λ x. not (has x b)) xs)) n
 
   pub in_none_below : in_none n xs < 2 ^ n
-  in_none_below = picked_below (λ b. not (any (λ x. has x b) xs)) n
+  in_none_below = picked_below (λ b. not (list_any (λ x. has x b) xs)) n
 
   pub in_every_has : (b x : ℕ) → has (in_every n xs) b ≡ true → Has xs x → has x b ≡ true
   in_every_has b x h m =
-      let none : any (λ y. not (has y b)) xs ≡ false =
-      not-true (any (λ y. not (has y b)) xs) (picked_passes (λ c. not (any (λ y. not (has y c)) xs)) n b h) in
+      let none : list_any (λ y. not (has y b)) xs ≡ false =
+      not-true (list_any (λ y. not (has y b)) xs) (picked_passes (λ c. not (list_any (λ y. not (has y c)) xs)) n b h) in
       not-false (has x b) (none_any (λ y. not (has y b)) xs x none m)
 
   pub in_every_from : (b : ℕ) → b < n → ((x : ℕ) → Has xs x → has x b ≡ true) → has (in_every n xs) b ≡ true
   in_every_from b l f =
-      picked_true (λ c. not (any (λ y. not (has y c)) xs)) n b l
-      (not_from_false (any (λ y. not (has y b)) xs) (any_none (λ y. not (has y b)) xs (λ x m. not_from_true (has x b) (f x m))))
+      picked_true (λ c. not (list_any (λ y. not (has y c)) xs)) n b l
+      (not_from_false (list_any (λ y. not (has y b)) xs) (any_none (λ y. not (has y b)) xs (λ x m. not_from_true (has x b) (f x m))))
 
   pub in_every_missing : (b : ℕ) → b < n → has (in_every n xs) b ≡ false → (x : ℕ) × Has xs x × (has x b ≡ false)
   in_every_missing b l h =
-      let some : any (λ y. not (has y b)) xs ≡ true =
-      not-false (any (λ y. not (has y b)) xs) (picked_false (λ c. not (any (λ y. not (has y c)) xs)) n b l h) in
+      let some : list_any (λ y. not (has y b)) xs ≡ true =
+      not-false (list_any (λ y. not (has y b)) xs) (picked_false (λ c. not (list_any (λ y. not (has y c)) xs)) n b l h) in
       let m = any_some (λ y. not (has y b)) xs some in
       (m.0, m.1, not-true (has m.0 b) m.2)
 
   pub in_none_lacks : (b x : ℕ) → has (in_none n xs) b ≡ true → Has xs x → has x b ≡ false
   in_none_lacks b x h m =
-      none_any (λ y. has y b) xs x (not-true (any (λ y. has y b) xs) (picked_passes (λ c. not (any (λ y. has y c) xs)) n b h)) m
+      none_any (λ y. has y b) xs x (not-true (list_any (λ y. has y b) xs) (picked_passes (λ c. not (list_any (λ y. has y c) xs)) n b h)) m
 
   pub in_none_from : (b : ℕ) → b < n → ((x : ℕ) → Has xs x → has x b ≡ false) → has (in_none n xs) b ≡ true
   in_none_from b l f =
-      picked_true (λ c. not (any (λ y. has y c) xs)) n b l (not_from_false (any (λ y. has y b) xs) (any_none (λ y. has y b) xs f))
+      picked_true (λ c. not (list_any (λ y. has y c) xs)) n b l (not_from_false (list_any (λ y. has y b) xs) (any_none (λ y. has y b) xs f))
 
   pub in_none_missing : (b : ℕ) → b < n → has (in_none n xs) b ≡ false → (x : ℕ) × Has xs x × (has x b ≡ true)
   in_none_missing b l h =
-      any_some (λ y. has y b) xs (not-false (any (λ y. has y b) xs) (picked_false (λ c. not (any (λ y. has y c) xs)) n b l h))
+      any_some (λ y. has y b) xs (not-false (list_any (λ y. has y b) xs) (picked_false (λ c. not (list_any (λ y. has y c) xs)) n b l h))
 
 module _ (p : ℕ → Bool) (n : ℕ) where
   -- ---- what fits
@@ -166,7 +166,7 @@ module _ (p : ℕ → Bool) (n : ℕ) where
 
   pub fits_alive : (i o x : ℕ) → Fits p n i o x → dead p n i o ≡ false
   fits_alive i o x f =
-      not_from_true (any (fits_node i o) (list_of p n))
+      not_from_true (list_any (fits_node i o) (list_of p n))
       (some_any (fits_node i o) (list_of p n) x (list_has p n x (fits_listed i o x f)) (node_from_fits i o x f))
 
   pub dead_none : (i o x : ℕ) → dead p n i o ≡ true → Fits p n i o x → ⊥
@@ -174,7 +174,7 @@ module _ (p : ℕ → Bool) (n : ℕ) where
 
   pub alive_some : (i o : ℕ) → dead p n i o ≡ false → (x : ℕ) × Fits p n i o x
   alive_some i o e =
-      let m = any_some (fits_node i o) (list_of p n) (not-false (any (fits_node i o) (list_of p n)) e) in
+      let m = any_some (fits_node i o) (list_of p n) (not-false (list_any (fits_node i o) (list_of p n)) e) in
       (m.0, fits_from_node i o m.0 (list_only p n m.0 m.1) m.2)
 
   pub none_dead : (i o : ℕ) → ((x : ℕ) → Fits p n i o x → ⊥) → dead p n i o ≡ true

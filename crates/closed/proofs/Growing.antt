@@ -1,16 +1,16 @@
 -- The tree of the nodes of a family: its leaves are the list, and the nodes up to a leaf are counted by the turns of its set.
 use Rattle.std.proofs.Common.{◌≡◌, ℕ, zero, suc, ◌+◌, ◌-◌, ◌<◌, ◌≤◌, Bool, true, false, cond, ◌||◌, ltb, ◌⊎◌, [], ◌∷◌, ◌++◌, length, get_or, sym, refl, ap, ◌∙◌, subst, inl, inr, ⊎_elim, arith}
-use Rattle.std.specs.List.{ContainsAt as Has, AllByRecursion}
+use Rattle.std.specs.List.{ContainsAt as Has, AllByRecursion, AllPairs}
 use Rattle.std.proofs.lemmas.List.{length-append, get_or_append_left, get_or-append_right, nil_from_length}
 use Rattle.std.proofs.ByRecursion.{All-append, All-weaker, all-has, has_append_left, has_append_right}
 use Rattle.std.proofs.lemmas.Bool.{ltb-true, ltb-false, cases_Bool, or_parts, cond-true, cond-false}
 use Rattle.marks.specs.Orders.{Before}
 use Rattle.marks.specs.Sets.{has, no_marks, with_bit, size_of}
 use Rattle.marks.specs.Sizes.{ones_with, ones_zero}
-use Rattle.closed.specs.Families.{Fits, Pairwise, list_of, dead, fitting, in_every, in_none, turn_count, turns}
+use Rattle.closed.specs.Families.{Fits, list_of, dead, fitting, in_every, in_none, turn_count, turns}
 use Rattle.closed.specs.Walks.{Tight, Narrowed, Free, Done, Reached, At}
 use Rattle.closed.specs.Trees.{Tree, dead_end, leaf, fork, leaves, nodes, upto_leaf, Alive, grow, node_tree, TreeLaw}
-use Rattle.closed.proofs.Ordered.{pairwise_append, has_here, list_ordered, list_has, list_only, same_listed}
+use Rattle.closed.proofs.Ordered.{pairs_append, has_here, list_ordered, list_has, list_only, same_listed}
 use Rattle.closed.proofs.Fitting.{fits_listed, fits_below, fits_root, fits_with, fits_with_back, fits_with_has}
 use Rattle.closed.proofs.Fitting.{fits_without, fits_without_back, fits_without_lacks, fits_alive, dead_none, alive_some, narrowed_defined}
 use Rattle.closed.proofs.Walking.{fits_alike, done_only, done_fits, reached_root, reached_narrowed, reached_in, reached_out, reached_skip, reached_turns, turns_one}
@@ -23,7 +23,7 @@ module _ (p : ℕ → Bool) (n : ℕ) where
   record Grown (i o t : ℕ) (g : Tree) : Type 0 where
     fit : AllByRecursion (Fits p n i o) (leaves g)
     all : (z : ℕ) → Fits p n i o z → Has (leaves g) z
-    ordered : Pairwise Before (leaves g)
+    ordered : AllPairs Before (leaves g)
     turned : (k : ℕ) → k < length (leaves g) → turn_count p n (get_or (leaves g) k 0) ≡ size_of t + lefts g k
     alive : Alive g
 
@@ -32,7 +32,7 @@ module _ (p : ℕ → Bool) (n : ℕ) where
       record {
         fit = (done_fits p n i o d w, tt);
         all = λ z f. subst (Has (i ∷ [])) (sym (done_only p n i o z d f)) (has_here i []);
-        ordered = (tt, tt);
+        ordered = λ j k d l h. absurd (omega arith);
         turned = turned;
         alive = tt;
       }
@@ -54,7 +54,7 @@ module _ (p : ℕ → Bool) (n : ℕ) where
             (All-weaker (Fits p n a b) (Fits p n i o) (λ z f. fits_with_back p n i o z q (v.same z f)) (leaves x) g.fit)
             (All-weaker (Fits p n c d) (Fits p n i o) (λ z f. fits_without_back p n i o z q (w.same z f)) (leaves y) h.fit);
         all = λ z f. by z f (cases_Bool (has z q));
-        ordered = pairwise_append Before (leaves x) (leaves y) g.ordered h.ordered
+        ordered = pairs_append Before (leaves x) (leaves y) g.ordered h.ordered
             (All-weaker (Fits p n a b) (λ z. AllByRecursion (Before z) (leaves y))
             (λ z f. All-weaker (Fits p n c d) (Before z) (λ u k. before z u (v.same z f) (w.same u k)) (leaves y) h.fit) (leaves x) g.fit);
         turned = λ k l. turned k l (ltb k (length (leaves x))) refl;
@@ -188,16 +188,3 @@ module _ (p : ℕ → Bool) (n : ℕ) where
   pub tree_law : TreeLaw p n
   tree_law =
       ⊎_elim law_dead (λ e. let x = alive_some p n no_marks no_marks e in law_alive x.0 x.1) (cases_Bool (dead p n no_marks no_marks))
-
-  -- what was opened on the way to a set are the nodes up to its leaf
-  pub opened_nodes : (k x t c : ℕ) → At p n k x t c → c ≡ upto_leaf (nodes (node_tree p n)) (k - 1)
-  opened_nodes k x t c a =
-      let s : turn_count p n (get_or (list_of p n) (k - 1) 0) ≡ size_of t =
-      ap (turn_count p n) a.entry ∙ ap size_of (sym (at_turns p n k x t c a)) in
-      omega (arith, tree_law.counted k a.counted a.within, a.opened)
-
-  -- at the last set every node was opened
-  pub opened_all : (k x c : ℕ) → At p n k x 0 c → c ≡ length (nodes (node_tree p n))
-  opened_all k x c a =
-      let l : k ≡ length (list_of p n) = at_last p n k x c a in
-      omega (arith, tree_law.all (omega (arith, a.counted)), ones_zero, a.opened)

@@ -1,53 +1,48 @@
 -- Lists in an order, what a list has, and the list of a family.
 use Rattle.std.proofs.Common.{◌≡◌, ℕ, zero, suc, ◌+◌, ◌*◌, ◌/◌, ◌%◌, ◌^◌, ◌<◌, Bool, true, false, cond, ◌⊎◌, List, [], ◌∷◌, ◌++◌, map, length, get_or, filter, sym, refl, ap, ◌∙◌, subst, ap₂, inl, inr, ⊎_elim, mod-lt, zero-lt-suc, arith}
-use Rattle.std.specs.List.{ContainsAt as Has, AllByRecursion}
+use Rattle.std.specs.List.{ContainsAt as Has, AllByRecursion, AllPairs, list_any}
 use Rattle.std.proofs.lemmas.List.{length-append, length-map, get_or-map}
-use Rattle.std.proofs.ByRecursion.{All-get_or, All-append, All-map, All-weaker, all_kept_by, all-has, all_has_itself, kept_by_passes, has_get_or, has_append_left, has_append_right}
+use Rattle.std.proofs.lemmas.List.Elements.{All-from_recursion, recursion_from_All}
+use Rattle.std.proofs.lemmas.List.Kept.{AllPairs-cons, AllPairs-filter}
+use Rattle.std.proofs.ByRecursion.{All-append, All-map, All-weaker, all_kept_by, all-has, all_has_itself, kept_by_passes, has_get_or, has_append_left, has_append_right}
 use Rattle.std.proofs.lemmas.Bool.{cases_order, cases_Bool, both_ways, or_left, or_right, or_cases}
 use Rattle.marks.specs.Orders.{Before}
 use Rattle.marks.specs.SetOrder.{before_irrefl, before_trans, before_half, before_odd}
-use Rattle.closed.specs.Families.{subsets, list_of, Pairwise, any, Listed, Follows}
+use Rattle.closed.specs.Families.{subsets, list_of, Listed, Follows}
 
 -- ---- lists in an order
 
 module _ (R : ℕ → ℕ → Type 0) where
-  pub pairwise_append : (xs ys : List ℕ) → Pairwise R xs → Pairwise R ys → AllByRecursion (λ x. AllByRecursion (R x) ys) xs → Pairwise R (xs ++ ys)
-  pairwise_append [] ys p q a = q
-  pairwise_append (x ∷ xs) ys p q a = (All-append (R x) xs ys p.0 a.0, pairwise_append xs ys p.1 q a.1)
+  pairs_head : (x : ℕ) (xs : List ℕ) → AllPairs R (x ∷ xs) → AllByRecursion (R x) xs
+  pairs_head x xs p = recursion_from_All (R x) xs (λ k d h. p 0 (suc k) d (omega arith) (omega arith))
 
-  pub pairwise_map : (f : ℕ → ℕ) → ((x y : ℕ) → R x y → R (f x) (f y)) → (xs : List ℕ) → Pairwise R xs → Pairwise R (map f xs)
-  pairwise_map f up [] p = tt
-  pairwise_map f up (x ∷ xs) p =
-      (All-map (R (f x)) f xs (All-weaker (R x) (λ y. R (f x) (f y)) (up x) xs p.0), pairwise_map f up xs p.1)
+  pairs_tail : (x : ℕ) (xs : List ℕ) → AllPairs R (x ∷ xs) → AllPairs R xs
+  pairs_tail x xs p = λ i j d l h. p (suc i) (suc j) d (omega arith) (omega arith)
 
-  -- a filter keeps the order
-  pub pairwise_filter : (t : ℕ → Bool) (xs : List ℕ) → Pairwise R xs → Pairwise R (filter t xs)
-  pairwise_filter t [] p = tt
-  pairwise_filter t (x ∷ xs) p = by (t x) (pairwise_filter t xs p.1)
-    where
-      by : (b : Bool) → Pairwise R (filter t xs) → Pairwise R (cond b (x ∷ filter t xs) (filter t xs))
-      by true q = (all_kept_by t (R x) xs p.0, q)
-      by false q = q
+  pub pairs_append : (xs ys : List ℕ) → AllPairs R xs → AllPairs R ys → AllByRecursion (λ x. AllByRecursion (R x) ys) xs → AllPairs R (xs ++ ys)
+  pairs_append [] ys p q a = q
+  pairs_append (x ∷ xs) ys p q a =
+      AllPairs-cons R x (xs ++ ys) (All-from_recursion (R x) (xs ++ ys) (All-append (R x) xs ys (pairs_head x xs p) a.0)) (pairs_append xs ys (pairs_tail x xs p) q a.1)
 
-  pub pairwise_get_or : (xs : List ℕ) (i j d : ℕ) → Pairwise R xs → i < j → j < length xs → R (get_or xs i d) (get_or xs j d)
-  pairwise_get_or [] i j d p l h = absurd (omega arith)
-  pairwise_get_or (x ∷ xs) zero zero d p l h = absurd (omega arith)
-  pairwise_get_or (x ∷ xs) zero (suc j) d p l h = All-get_or (R x) xs j d (omega arith) p.0
-  pairwise_get_or (x ∷ xs) (suc i) zero d p l h = absurd (omega arith)
-  pairwise_get_or (x ∷ xs) (suc i) (suc j) d p l h = pairwise_get_or xs i j d p.1 (omega arith) (omega arith)
+  pairs_map : (f : ℕ → ℕ) → ((x y : ℕ) → R x y → R (f x) (f y)) → (xs : List ℕ) → AllPairs R xs → AllPairs R (map f xs)
+  pairs_map f up [] p = p
+  pairs_map f up (x ∷ xs) p =
+      AllPairs-cons R (f x) (map f xs)
+      (All-from_recursion (R (f x)) (map f xs) (All-map (R (f x)) f xs (All-weaker (R x) (λ y. R (f x) (f y)) (up x) xs (pairs_head x xs p))))
+      (pairs_map f up xs (pairs_tail x xs p))
 
   module _ (never : (x : ℕ) → R x x → ⊥) (trans : (x y z : ℕ) → R x y → R y z → R x z) where
     -- places follow the relation
-    pub place_lt : (xs : List ℕ) (i j d : ℕ) → Pairwise R xs → i < length xs → R (get_or xs i d) (get_or xs j d) → i < j
+    pub place_lt : (xs : List ℕ) (i j d : ℕ) → AllPairs R xs → i < length xs → R (get_or xs i d) (get_or xs j d) → i < j
     place_lt xs i j d p hi r = by (cases_order i j)
       where
         by : (i ≡ j) ⊎ ((i < j) ⊎ (j < i)) → i < j
         by (inl e) = absurd (never (get_or xs i d) (subst (λ k. R (get_or xs i d) (get_or xs k d)) (sym e) r))
         by (inr (inl l)) = l
-        by (inr (inr l)) = absurd (never (get_or xs i d) (trans (get_or xs i d) (get_or xs j d) (get_or xs i d) r (pairwise_get_or xs j i d p l hi)))
+        by (inr (inr l)) = absurd (never (get_or xs i d) (trans (get_or xs i d) (get_or xs j d) (get_or xs i d) r (p j i d l hi)))
 
     -- x stands at k, and y is the nearest member after it: y stands at k + 1
-    pub next_place : (xs : List ℕ) (k x y : ℕ) → Pairwise R xs → k < length xs → get_or xs k 0 ≡ x → Has xs y → R x y
+    pub next_place : (xs : List ℕ) (k x y : ℕ) → AllPairs R xs → k < length xs → get_or xs k 0 ≡ x → Has xs y → R x y
         → ((z : ℕ) → Has xs z → R x z → R z y → ⊥) → (k + 1 < length xs) × (get_or xs (k + 1) 0 ≡ y)
     next_place xs k x y p h e m r between = by (cases_order (k + 1) m.0)
       where
@@ -62,8 +57,8 @@ module _ (R : ℕ → ℕ → Type 0) where
         by (inr (inl l)) =
             let in' : k + 1 < length xs = omega (arith, m.1) in
             absurd (between (get_or xs (k + 1) 0) (has_get_or xs (k + 1) 0 in')
-            (subst (λ a. R a (get_or xs (k + 1) 0)) e (pairwise_get_or xs k (k + 1) 0 p (omega arith) in'))
-            (subst (R (get_or xs (k + 1) 0)) is (pairwise_get_or xs (k + 1) m.0 0 p l m.1)))
+            (subst (λ a. R a (get_or xs (k + 1) 0)) e (p k (k + 1) 0 (omega arith) in'))
+            (subst (R (get_or xs (k + 1) 0)) is (p (k + 1) m.0 0 l m.1)))
         by (inr (inr l)) = absurd (omega (arith, after))
 
 -- ---- what a list has, from its front on
@@ -105,24 +100,24 @@ has_from_filter t xs x m = (
 -- ---- some element passes a test
 
 module _ (test : ℕ → Bool) where
-  pub any_some : (xs : List ℕ) → any test xs ≡ true → (x : ℕ) × Has xs x × (test x ≡ true)
+  pub any_some : (xs : List ℕ) → list_any test xs ≡ true → (x : ℕ) × Has xs x × (test x ≡ true)
   any_some [] e = absurd (both_ways false refl e)
   any_some (y ∷ xs) e =
       ⊎_elim (λ h. (y, has_here y xs, h)) (λ h. let m = any_some xs h in (m.0, has_later y xs m.0 m.1, m.2))
-      (or_cases (test y) (any test xs) e)
+      (or_cases (test y) (list_any test xs) e)
 
-  pub some_any : (xs : List ℕ) (x : ℕ) → Has xs x → test x ≡ true → any test xs ≡ true
+  pub some_any : (xs : List ℕ) (x : ℕ) → Has xs x → test x ≡ true → list_any test xs ≡ true
   some_any [] x m e = absurd (omega (arith, m.1))
   some_any (y ∷ xs) x m e =
-      ⊎_elim (λ q. or_left (test y) (any test xs) (ap test q ∙ e)) (λ k. or_right (test y) (any test xs) (some_any xs x k e))
+      ⊎_elim (λ q. or_left (test y) (list_any test xs) (ap test q ∙ e)) (λ k. or_right (test y) (list_any test xs) (some_any xs x k e))
       (has_cons_cases y xs x m)
 
-  pub none_any : (xs : List ℕ) (x : ℕ) → any test xs ≡ false → Has xs x → test x ≡ false
-  none_any xs x e m = ⊎_elim (λ h. absurd (both_ways (any test xs) e (some_any xs x m h))) (λ h. h) (cases_Bool (test x))
+  pub none_any : (xs : List ℕ) (x : ℕ) → list_any test xs ≡ false → Has xs x → test x ≡ false
+  none_any xs x e m = ⊎_elim (λ h. absurd (both_ways (list_any test xs) e (some_any xs x m h))) (λ h. h) (cases_Bool (test x))
 
-  pub any_none : (xs : List ℕ) → ((x : ℕ) → Has xs x → test x ≡ false) → any test xs ≡ false
+  pub any_none : (xs : List ℕ) → ((x : ℕ) → Has xs x → test x ≡ false) → list_any test xs ≡ false
   any_none xs f =
-      ⊎_elim (λ h. let m = any_some xs h in absurd (both_ways (test m.0) (f m.0 m.1) m.2)) (λ h. h) (cases_Bool (any test xs))
+      ⊎_elim (λ h. let m = any_some xs h in absurd (both_ways (test m.0) (f m.0 m.1) m.2)) (λ h. h) (cases_Bool (list_any test xs))
 
 -- ---- the list of all sets
 
@@ -146,14 +141,14 @@ subsets_below (suc n) =
     (All-map (λ x. x < 2 ^ suc n) even (subsets n) (All-weaker (λ x. x < 2 ^ n) (λ x. x * 2 < 2 ^ suc n) (λ x h. omega arith) (subsets n) (subsets_below n)))
 
 -- it is in order
-pub subsets_ordered : (n : ℕ) → Pairwise Before (subsets n)
+pub subsets_ordered : (n : ℕ) → AllPairs Before (subsets n)
 unfolding subsets
-subsets_ordered zero = (tt, tt)
+subsets_ordered zero = λ i j d l h. absurd (omega arith)
 subsets_ordered (suc n) =
-    pairwise_append Before (map odd (subsets n)) (map even (subsets n))
-    (pairwise_map Before odd (λ x y b. before_half (odd x) (odd y) (omega arith) (halves (odd x) (odd y) x y (omega arith) (omega arith) b))
+    pairs_append Before (map odd (subsets n)) (map even (subsets n))
+    (pairs_map Before odd (λ x y b. before_half (odd x) (odd y) (omega arith) (halves (odd x) (odd y) x y (omega arith) (omega arith) b))
     (subsets n) (subsets_ordered n))
-    (pairwise_map Before even (λ x y b. before_half (even x) (even y) (omega arith) (halves (even x) (even y) x y (omega arith) (omega arith) b))
+    (pairs_map Before even (λ x y b. before_half (even x) (even y) (omega arith) (halves (even x) (even y) x y (omega arith) (omega arith) b))
     (subsets n) (subsets_ordered n))
     (All-map (λ x. AllByRecursion (Before x) (map even (subsets n))) odd (subsets n)
     (all_of (λ x. AllByRecursion (Before (odd x)) (map even (subsets n)))
@@ -185,8 +180,8 @@ subsets_has (suc n) x h = by (x % 2) refl (mod-lt x (zero-lt-suc 1)) (subsets_ha
 -- ---- the list of a family
 
 module _ (p : ℕ → Bool) (n : ℕ) where
-  pub list_ordered : Pairwise Before (list_of p n)
-  list_ordered = pairwise_filter Before p (subsets n) (subsets_ordered n)
+  pub list_ordered : AllPairs Before (list_of p n)
+  list_ordered = AllPairs-filter Before p (subsets n) (subsets_ordered n)
 
   pub list_has : (x : ℕ) → Listed p n x → Has (list_of p n) x
   list_has x l = has_filter p (subsets n) x (subsets_has n x l.below) l.passes
@@ -211,7 +206,7 @@ module _ (p : ℕ → Bool) (n : ℕ) where
       by zero l is = (l, is 0)
       by (suc k) l is =
           absurd (none (get_or (list_of p n) 0 0) (place_listed 0 (omega arith))
-          (subst (Before (get_or (list_of p n) 0 0)) (is 0) (pairwise_get_or Before (list_of p n) 0 (suc k) 0 list_ordered (omega arith) l)))
+          (subst (Before (get_or (list_of p n) 0 0)) (is 0) (list_ordered 0 (suc k) 0 (omega arith) l)))
 
   -- the set that follows x stands right after it
   pub next_listed : (k x y : ℕ) → k < length (list_of p n) → get_or (list_of p n) k 0 ≡ x → Follows p n x y
@@ -229,17 +224,17 @@ module _ (p : ℕ → Bool) (n : ℕ) where
       by (inl q) = q
       by (inr (inl l)) =
           absurd (none (get_or (list_of p n) (k + 1) 0) (place_listed (k + 1) l)
-          (subst (λ a. Before a (get_or (list_of p n) (k + 1) 0)) e (pairwise_get_or Before (list_of p n) k (k + 1) 0 list_ordered (omega arith) l)))
+          (subst (λ a. Before a (get_or (list_of p n) (k + 1) 0)) e (list_ordered k (k + 1) 0 (omega arith) l)))
       by (inr (inr l)) = absurd (omega arith)
 
 -- two lists in the order with the same members are the same
-pub same_listed : (xs ys : List ℕ) → Pairwise Before xs → Pairwise Before ys → ((x : ℕ) → Has xs x → Has ys x) → ((x : ℕ) → Has ys x → Has xs x) → xs ≡ ys
+pub same_listed : (xs ys : List ℕ) → AllPairs Before xs → AllPairs Before ys → ((x : ℕ) → Has xs x → Has ys x) → ((x : ℕ) → Has ys x → Has xs x) → xs ≡ ys
 same_listed [] [] p q f g = refl
 same_listed [] (y ∷ ys) p q f g = absurd (omega (arith, (g y (has_here y ys)).1))
 same_listed (x ∷ xs) [] p q f g = absurd (omega (arith, (f x (has_here x xs)).1))
 same_listed (x ∷ xs) (y ∷ ys) p q f g =
     let e : x ≡ y = heads in
-    ap₂ (λ (a : ℕ) (l : List ℕ). a ∷ l) e (same_listed xs ys p.1 q.1 (tails x y xs ys e p f) (tails y x ys xs (sym e) q g))
+    ap₂ (λ (a : ℕ) (l : List ℕ). a ∷ l) e (same_listed xs ys (pairs_tail Before x xs p) (pairs_tail Before y ys q) (tails x y xs ys e p f) (tails y x ys xs (sym e) q g))
   where
     heads : x ≡ y
     heads = by (has_cons_cases y ys x (f x (has_here x xs))) (has_cons_cases x xs y (g y (has_here y ys)))
@@ -247,11 +242,11 @@ same_listed (x ∷ xs) (y ∷ ys) p q f g =
         by : (y ≡ x) ⊎ Has ys x → (x ≡ y) ⊎ Has xs y → x ≡ y
         by (inl e) r = sym e
         by (inr m) (inl e) = e
-        by (inr m) (inr w) = absurd (before_irrefl x (before_trans x y x (all-has (Before x) xs y p.0 w) (all-has (Before y) ys x q.0 m)))
+        by (inr m) (inr w) = absurd (before_irrefl x (before_trans x y x (all-has (Before x) xs y (pairs_head Before x xs p) w) (all-has (Before y) ys x (pairs_head Before y ys q) m)))
 
-    tails : (x y : ℕ) (xs ys : List ℕ) → x ≡ y → Pairwise Before (x ∷ xs) → ((z : ℕ) → Has (x ∷ xs) z → Has (y ∷ ys) z) → (z : ℕ) → Has xs z → Has ys z
+    tails : (x y : ℕ) (xs ys : List ℕ) → x ≡ y → AllPairs Before (x ∷ xs) → ((z : ℕ) → Has (x ∷ xs) z → Has (y ∷ ys) z) → (z : ℕ) → Has xs z → Has ys z
     tails x y xs ys e p f z m = by (has_cons_cases y ys z (f z (has_later x xs z m)))
       where
         by : (y ≡ z) ⊎ Has ys z → Has ys z
-        by (inl q) = absurd (before_irrefl x (subst (Before x) (sym (e ∙ q)) (all-has (Before x) xs z p.0 m)))
+        by (inl q) = absurd (before_irrefl x (subst (Before x) (sym (e ∙ q)) (all-has (Before x) xs z (pairs_head Before x xs p) m)))
         by (inr w) = w

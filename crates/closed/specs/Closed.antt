@@ -1,6 +1,6 @@
 -- Closed sets of a table, and the list of those that are wanted.
 use Rattle.std.specs.Prelude.{◌≡◌, ℕ, ◌^◌, ◌<◌, ◌≤◌, Bool, true, not, ◌&&◌, ◌||◌, ◌⊎◌, ◌↔◌, List, [], ◌∷◌, Decides, Option, Err, Result, IsOk, ◌==◌, nat_le}
-use Rattle.std.specs.List.{ContainsAt as Has}
+use Rattle.std.specs.List.{ContainsAt as Has, AllPairs}
 use Rattle.marks.specs.declared.refusal.Reason.TheVariants.{Clash, DeadEnd}
 use Rattle.marks.specs.declared.refusal.Refusal.{Refusal}
 use Rattle.marks.specs.Orders.{Before}
@@ -8,7 +8,7 @@ use Rattle.marks.specs.Refusals.{unplaced, due_if, first_due}
 use Rattle.marks.specs.Sets.{has, no_marks, all_below, both, part_of, PartOf}
 use Rattle.tables.specs.Meaning.{Meaning}
 use Rattle.tables.specs.Holding.{support_of, closure_of}
-use Rattle.closed.specs.Families.{list_of, Pairwise, Fits, Turns, turns, dead, fitting, in_every, in_none}
+use Rattle.closed.specs.Families.{list_of, Fits, Turns, turns, dead, fitting, in_every, in_none}
 
 -- What a list is made of: the meaning of a table, which sets a limit allows, and the least support.
 pub record Query : Type 0 where
@@ -59,7 +59,7 @@ pub record ClosureLaws (m : Meaning) : Type 0 where
 
 -- The list is strictly ordered, and holds exactly the listed sets; and which marks the turns of a set are.
 pub record ListLaws (q : Query) : Type 0 where
-  pub ordered : Pairwise Before (the_list q)
+  pub ordered : AllPairs Before (the_list q)
   pub only_listed : (x : ℕ) → Has (the_list q) x → listed q x ≡ true
   pub all_listed : (x : ℕ) → listed q x ≡ true → Has (the_list q) x
   pub turned : (x : ℕ) → x < 2 ^ q.table.width → Turns (listed q) q.table.width x (turns (listed q) q.table.width x)

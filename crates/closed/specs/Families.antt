@@ -1,10 +1,10 @@
 -- Families of sets: the sets of marks below n that pass a test p, their list, and which of them fit a node.
-use Rattle.std.specs.Prelude.{◌≡◌, ℕ, zero, suc, ◌+◌, ◌*◌, ◌^◌, ◌<◌, Bool, true, false, not, ◌&&◌, ◌||◌, List, [], ◌∷◌, ◌++◌, map, filter, ◌==◌}
-use Rattle.std.specs.List.{AllByRecursion}
+use Rattle.std.specs.Prelude.{◌≡◌, ℕ, zero, suc, ◌+◌, ◌*◌, ◌^◌, ◌<◌, Bool, true, false, not, ◌&&◌, List, [], ◌∷◌, ◌++◌, map, filter, ◌==◌}
+use Rattle.std.specs.List.{list_any}
 use Rattle.marks.specs.Orders.{Before}
 use Rattle.marks.specs.Sets.{has, no_marks, all_below, both, part_of, PartOf, size_of, picked}
 
--- AllByRecursion sets of marks below n, in list order: those with the lowest mark, then those without it, each in the order of what is left.
+-- All sets of marks below n, in list order: those with the lowest mark, then those without it, each in the order of what is left.
 unfoldable pub subsets : ℕ → List ℕ
 subsets zero = no_marks ∷ []
 subsets (suc n) = map (λ x. x * 2 + 1) (subsets n) ++ map (λ x. x * 2) (subsets n)
@@ -12,16 +12,6 @@ subsets (suc n) = map (λ x. x * 2 + 1) (subsets n) ++ map (λ x. x * 2) (subset
 -- the list of the family: its sets, each once, in list order
 abbrev pub list_of : (ℕ → Bool) → ℕ → List ℕ
 list_of p n = filter p (subsets n)
-
--- each element of a list stands in the relation to every later one
-abbrev pub Pairwise : (ℕ → ℕ → Type 0) → List ℕ → Type 0
-Pairwise R [] = Unit {0}
-Pairwise R (x ∷ xs) = AllByRecursion (R x) xs × Pairwise R xs
-
--- some element of a list passes the test
-abbrev pub any : (ℕ → Bool) → List ℕ → Bool
-any test [] = false
-any test (x ∷ xs) = test x || any test xs
 
 -- x is a set of the family
 pub record Listed (p : ℕ → Bool) (n x : ℕ) : Type 0 where
@@ -47,14 +37,14 @@ fitting p n i o = filter (fits_node i o) (list_of p n)
 
 -- no set of the family fits the node
 abbrev pub dead : (ℕ → Bool) → ℕ → ℕ → ℕ → Bool
-dead p n i o = not (any (fits_node i o) (list_of p n))
+dead p n i o = not (list_any (fits_node i o) (list_of p n))
 
 -- the marks below n that are in every set of a list, and those that are in none
 abbrev pub in_every : ℕ → List ℕ → ℕ
-in_every n xs = picked (λ b. not (any (λ x. not (has x b)) xs)) n
+in_every n xs = picked (λ b. not (list_any (λ x. not (has x b)) xs)) n
 
 abbrev pub in_none : ℕ → List ℕ → ℕ
-in_none n xs = picked (λ b. not (any (λ x. has x b) xs)) n
+in_none n xs = picked (λ b. not (list_any (λ x. has x b) xs)) n
 
 -- ---- where other sets turn aside
 
@@ -69,7 +59,7 @@ lacks_first x b y = part_in y b == part_in x b && not (has y b)
 -- The turns of x: its marks at which some set of the family turns aside, which is to agree with x on every mark below and to lack the mark.
 -- x is any set of marks below n, in the family or not.
 unfoldable pub turns : (ℕ → Bool) → ℕ → ℕ → ℕ
-turns p n x = picked (λ b. has x b && any (lacks_first x b) (list_of p n)) n
+turns p n x = picked (λ b. has x b && list_any (lacks_first x b) (list_of p n)) n
 
 -- how many there are
 abbrev pub turn_count : (ℕ → Bool) → ℕ → ℕ → ℕ
@@ -94,10 +84,12 @@ pub record Turns (p : ℕ → Bool) (n x t : ℕ) : Type 0 where
 
 -- ---- the first that fits a node, and the one that follows a set
 
+-- y fits the node (i, o), and no set of the family that fits it comes before y
 pub record First (p : ℕ → Bool) (n i o y : ℕ) : Type 0 where
   pub fits : Fits p n i o y
   pub none_before : (z : ℕ) → Fits p n i o z → Before z y → ⊥
 
+-- y is the next set of the family after x, which need not be of the family itself
 pub record Follows (p : ℕ → Bool) (n x y : ℕ) : Type 0 where
   pub listed : Listed p n y
   pub after : Before x y

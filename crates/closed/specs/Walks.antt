@@ -68,7 +68,7 @@ pub record Descent (p : ℕ → Bool) (n k c₀ q₀ i₀ o₀ i o t c : ℕ) : 
   pub opened : Opened k (size_of t) c
   pub grown : c + q₀ ≤ c₀ + upto
 
--- what the descent finds
+-- What the descent finds: x is the first set that fits the node at which it began, with the turns t; and c nodes are then opened, at most one for each mark from q₀ on.
 pub record Descended (p : ℕ → Bool) (n k c₀ q₀ i₀ o₀ x t c : ℕ) : Type 0 where
   pub first : First p n i₀ o₀ x
   pub turns : Turns p n x t

@@ -1,8 +1,8 @@
 -- The records that were handed out: the first of the list, one after another.
 use Rattle.std.proofs.Common.{◌≡◌, ℕ, zero, suc, ◌+◌, ◌<◌, ◌≤◌, List, [], ◌∷◌, ◌++◌, map, length, get_or, take, sym, refl, ap, ◌∙◌, subst, arith}
-use Rattle.std.specs.List.{range_with_len, AllByRecursion}
-use Rattle.std.proofs.ByRecursion.{All-map, All-take}
-use Rattle.std.proofs.lemmas.List.{take_more, length-take-le, length-append, get_or-take, get_or_at}
+use Rattle.std.specs.List.{range_with_len, AllByRecursion, AllPairs}
+use Rattle.std.proofs.ByRecursion.{All-map}
+use Rattle.std.proofs.lemmas.List.{take_more, length-take-le, length-take, length-append, get_or-take, get_or_at}
 use Rattle.std.proofs.lemmas.List.FromFn.{fill_by_all, take-map-range_with_len, length-range_with_len, get_or-range_with_len}
 use Rattle.std.proofs.lemmas.Simd.{map-map}
 use Rattle.marks.specs.Orders.{Before}
@@ -10,7 +10,6 @@ use Rattle.tables.specs.Holding.{support_of}
 use Rattle.found.specs.declared.record.Record.{Record}
 use Rattle.found.specs.Records.{no_record}
 use Rattle.closed.specs.Closed.{Query, listed, the_list}
-use Rattle.closed.specs.Families.{Pairwise}
 use Rattle.closed.proofs.Ordered.{list_ordered}
 use Rattle.finder.specs.Found.{how_many, records}
 use Rattle.finder.specs.Runs.{FirstSets}
@@ -20,10 +19,11 @@ all_hold : {A : Type 0} (P : A → Type 0) → ((x : A) → P x) → (xs : List 
 all_hold P every [] = tt
 all_hold P every (x ∷ xs) = (every x, all_hold P every xs)
 
-pairwise_take : (R : ℕ → ℕ → Type 0) (k : ℕ) (xs : List ℕ) → Pairwise R xs → Pairwise R (take k xs)
-pairwise_take R zero xs p = tt
-pairwise_take R (suc k) [] p = tt
-pairwise_take R (suc k) (x ∷ xs) p = (All-take (R x) k xs p.0, pairwise_take R k xs p.1)
+pairs_take : (R : ℕ → ℕ → Type 0) (k : ℕ) (xs : List ℕ) → AllPairs R xs → AllPairs R (take k xs)
+pairs_take R k xs p =
+    λ i j d l h.
+    let size = length-take k xs in
+    rw (get_or-take k xs i d (omega arith), get_or-take k xs j d (omega arith)) (p i j d l (omega arith))
 
 module _ (q : Query) where
   -- k records were handed out
@@ -84,7 +84,7 @@ module _ (q : Query) where
     handed_first =
         record {
           sets = subst (λ n. map (λ r. r.set.bits) out ≡ take n (the_list q)) (sym handed_length) sets_are;
-          once_in_order = subst (Pairwise Before) (sym sets_are) (pairwise_take Before k (the_list q) (list_ordered (listed q) q.table.width));
+          once_in_order = subst (AllPairs Before) (sym sets_are) (pairs_take Before k (the_list q) (list_ordered (listed q) q.table.width));
           supports =
               subst (AllByRecursion (λ r. r.support ≡ support_of q.table r.set.bits)) (sym by_place)
               (All-map (λ r. r.support ≡ support_of q.table r.set.bits) (found_at q) (range_with_len 0 k) (all_hold (λ j. support_of q.table (set_at q j) ≡ support_of q.table (set_at q j)) (λ j. refl) (range_with_len 0 k)));

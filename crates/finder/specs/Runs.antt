@@ -1,14 +1,14 @@
 -- The law of all runs: what the transcript of the calls of a finder says, whatever calls were made. It speaks of the list and of records, and not of the finder.
 use Rattle.std.specs.Prelude.{◌≡◌, ℕ, ◌+◌, ◌-◌, ◌*◌, ◌<◌, ◌≤◌, List, [], ◌∷◌, ◌++◌, map, length, take, Ok, Err, fold, Result, slice_index}
-use Rattle.std.specs.List.{range_with_len, ContainsAt as Has, AllByRecursion}
+use Rattle.std.specs.List.{range_with_len, ContainsAt as Has, AllByRecursion, AllPairs}
 use Rattle.marks.specs.declared.refusal.Reason.TheVariants.{ShortSlot, NothingYet}
 use Rattle.marks.specs.declared.refusal.Refusal.{Refusal}
 use Rattle.marks.specs.Orders.{Before}
 use Rattle.marks.specs.Refusals.{unplaced}
 use Rattle.tables.specs.Holding.{support_of}
 use Rattle.found.specs.declared.record.Record.{Record}
-use Rattle.found.specs.Records.{record_at, record_length}
-use Rattle.closed.specs.Families.{Pairwise, turn_count}
+use Rattle.found.specs.Records.{record_at, record_length, written}
+use Rattle.closed.specs.Families.{turn_count}
 use Rattle.closed.specs.Trees.{Tree, node_tree, nodes, upto_leaf, TreeLaw}
 use Rattle.closed.specs.Closed.{Query, listed, the_list}
 use Rattle.finder.specs.declared.step.Step.{Step}
@@ -51,7 +51,7 @@ shown (e ∷ entries) = shown_by e ++ shown entries
 -- the records show the first sets of the list, each once, in list order, with their supports and with their places as ordinals
 pub record FirstSets (q : Query) (out : List Record) : Type 0 where
   pub sets : map (λ r. r.set.bits) out ≡ take (length out) (the_list q)
-  pub once_in_order : Pairwise Before (map (λ r. r.set.bits) out)
+  pub once_in_order : AllPairs Before (map (λ r. r.set.bits) out)
   pub supports : AllByRecursion (λ r. r.support ≡ support_of q.table r.set.bits) out
   pub ordinals : map (λ r. r.ordinal) out ≡ range_with_len 1 (length out)
 

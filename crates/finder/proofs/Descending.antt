@@ -113,12 +113,6 @@ pub record Descending (q : Query) (start : Start) (opened : ℕ) (node : Node) (
       → Descent (listed q) q.table.width k opened b start.node.ins.bits start.node.outs.bits node.ins.bits node.outs.bits turned opened'
 
 module _ (q : Query) (small : q.table.width ≤ most_marks) (start : Start) (opened : ℕ) where
-  pub descending_start : Ready q start.node → Descending q start opened start.node start.turns.bits opened
-  descending_start r = record {
-    ready = r;
-    from = λ k b s. descent_from (listed q) q.table.width k opened b start.node.ins.bits start.node.outs.bits start.turns.bits s.reached r.tight s.counted;
-  }
-
   module _ (node : Node) (turned opened' : ℕ) (d : Descending q start opened node turned opened') where
     pub descending_more : (f : ℕ) → Free q.table.width node.ins.bits node.outs.bits f
         → (child : Node) (turned'' opened'' : ℕ) → child ≡ node_of q (with_bit node.ins.bits f) node.outs.bits → turned'' ≡ with_bit turned f → opened'' ≡ one_more opened'

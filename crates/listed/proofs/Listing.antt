@@ -17,11 +17,6 @@ use Rattle.listed.specs.Answering.{record_text, list_text}
 abbrev pub lines_of : List Record → ℕ → List ℕ
 lines_of rs k = flat_map record_text (take k rs)
 
-pub line_more : (rs : List Record) (k : ℕ) (r : Record) → k < length rs → r ≡ get_or rs k no_record → lines_of rs (k + 1) ≡ lines_of rs k ++ record_text r
-line_more rs k r h e =
-    ap (flat_map record_text) (take_more rs k no_record h) ∙ flat_map-append record_text (take k rs) (get_or rs k no_record ∷ [])
-    ∙ ap (λ (t : List ℕ). lines_of rs k ++ t) (append-nil (record_text (get_or rs k no_record)) ∙ ap record_text (sym e))
-
 counted : (q : Query) → length (records q) ≡ how_many q
 unfolding records
 counted q = length-map (range_with_len 0 (how_many q)) _ ∙ length-range_with_len 0 (how_many q)

@@ -18,13 +18,6 @@ range_accepted most n h =
 pub range_due : (most n : ℕ) (refusal : Refusal) → range_refusal most n ≡ Some refusal → InRange most n → ⊥
 range_due most n refusal some h = none_due (range_refusal most n) refusal (range_accepted most n h) some
 
--- a call that refuses by one test refuses exactly where it holds
-pub refused_if : {A : Type 0} (test : Bool) (refusal : Refusal) (P : A → Type 0) (r : Result A Refusal) → Answers (due_if test refusal) P r → is_err r ≡ test
-refused_if true refusal P (Ok x) h = absurd (none_due None refusal refl (sym h.0))
-refused_if true refusal P (Err e) h = refl
-refused_if false refusal P (Ok x) h = refl
-refused_if false refusal P (Err e) h = absurd (none_due None e refl h)
-
 -- a call that refuses nothing answers a value
 pub not_due : {A : Type 0} (due : Option Refusal) (P : A → Type 0) (r : Result A Refusal) → due ≡ None → Answers due P r → IsOk r
 not_due due P (Ok x) none h = refl

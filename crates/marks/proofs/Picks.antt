@@ -12,10 +12,6 @@ module _ (test : ℕ → Bool) where
   unfolding picked
   picked_start = refl
 
-  pub picked_more : (n : ℕ) → picked test (n + 1) ≡ cond (test n) (with_bit (picked test n) n) (picked test n)
-  unfolding picked
-  picked_more n = ap (picked test) (add-one n)
-
   pub has_picked : (n b : ℕ) → has (picked test n) b ≡ (ltb b n && test b)
   unfolding picked
   has_picked zero b = has_none b ∙ grind (arith, nat_tests)

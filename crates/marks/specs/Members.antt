@@ -16,7 +16,7 @@ pub has_suc : (s b : ℕ) → has s (suc b) ≡ has (s / 2) b
 unfolding has
 has_suc s b = ap (λ (x : ℕ). nat_eq (x % 2) 1) (sym (shr-shr s 1 b ∙ ap (λ (k : ℕ). s / 2 ^ k) (omega arith)))
 
--- a digit
+-- what is so of 0 and of 1 is so of a digit
 digit : (P : ℕ → Type 0) → P 0 → P 1 → (x : ℕ) → x < 2 → P x
 digit P p q zero h = p
 digit P p q (suc zero) h = q

@@ -85,10 +85,6 @@ abbrev pub outside : ℕ → Bool
 outside mark = not (in_range most_marks mark)
 
 module _ (numbers : List ℕ) where
-  pub refused_range : (place : ℕ) → first_place outside numbers ≡ Some place → choice_refusal numbers ≡ Some (placed_at Range place)
-  unfolding choice_refusal
-  refused_range place e = rw e
-
   module _ (marks : first_place outside numbers ≡ None) where
     pub refused_empty : length numbers ≡ 0 → choice_refusal numbers ≡ Some (placed_at BadChoice 1)
     unfolding choice_refusal

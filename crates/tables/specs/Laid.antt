@@ -26,13 +26,6 @@ module _ (flipped : ℕ) (m : Meaning) where
   unfolding reversed
   reversed_at k h = get_or-map (λ row. differing row (both flipped (all_below m.width))) m.rows k 0 0 h
 
-  pub reversed_row : (charge : ℕ) → 1 ≤ charge → charge ≤ count_of m
-      → row_of (reversed flipped m) charge ≡ differing (row_of m charge) (both flipped (all_below m.width))
-  reversed_row charge p h = reversed_at (charge - 1) (omega arith)
-
-  pub reversed_past : (charge : ℕ) → count_of m < charge → row_of (reversed flipped m) charge ≡ 0
-  reversed_past charge h = get_or_past (reversed flipped m).rows (charge - 1) 0 (omega (arith, reversed_count))
-
   pub reversed_proper : Proper m → Proper (reversed flipped m)
   reversed_proper p = record {
     wide = subst (λ w. InRange most_marks w) (sym reversed_width) p.wide;
@@ -62,18 +55,6 @@ module _ (first count : ℕ) (m : Meaning) where
   windowed_at : (k : ℕ) → k < count → slice_index (windowed first count m).rows k ≡ slice_index m.rows (first - 1 + k)
   unfolding windowed
   windowed_at k h = get_or-take count (drop (first - 1) m.rows) k 0 h ∙ get_or-drop (first - 1) m.rows k 0
-
-  pub windowed_row : (charge : ℕ) → 1 ≤ charge → charge ≤ count → row_of (windowed first count m) charge ≡ row_of m (first - 1 + charge)
-  windowed_row charge p h =
-      let e : first - 1 + (charge - 1) ≡ first - 1 + charge - 1 = omega arith in
-      windowed_at (charge - 1) (omega arith) ∙ ap (λ i. slice_index m.rows i) e
-
-  pub windowed_past : (charge : ℕ) → count < charge → row_of (windowed first count m) charge ≡ 0
-  windowed_past charge h = get_or_past (windowed first count m).rows (charge - 1) 0 (omega (arith, windowed_count))
-
-  -- a charge past the last that there can be has no row
-  pub windowed_beyond : (charge : ℕ) → Proper m → most_charges < first - 1 + charge → row_of (windowed first count m) charge ≡ 0
-  windowed_beyond charge p h = get_or_past (windowed first count m).rows (charge - 1) 0 (omega (arith, windowed_count, p.few))
 
   pub windowed_proper : Proper m → Proper (windowed first count m)
   windowed_proper p = record {

@@ -44,18 +44,6 @@ trimmed_proper n rows = record {
   within = λ k. rw (trimmed_width n rows) (trimmed_within n rows k);
 }
 
--- what is proper is kept as it is
-pub trimmed_same : (n : ℕ) (rows : List ℕ) → Proper (record { width = n; rows = rows }) → trimmed n rows ≡ record { width = n; rows = rows }
-unfolding trimmed
-trimmed_same n rows p =
-    let same : nearest_width n ≡ n = omega (arith, p.wide.0, p.wide.1) in
-    let kept : map (λ row. row % 2 ^ n) rows ≡ rows =
-    ext_get_or 0 (map (λ row. row % 2 ^ n) rows) rows (length-map rows _)
-    (λ i h. get_or-map (λ row. row % 2 ^ n) rows i 0 0 (omega (arith, length-map rows (λ row. row % 2 ^ n))) ∙ mod-eq_of_lt (p.within i)) in
-    let made : ℕ → List ℕ → Meaning = λ v xs. record { width = v; rows = map (λ row. row % 2 ^ v) xs } in
-    ap (λ (v : ℕ). made v (take most_charges rows)) same ∙ ap (made n) (take_all most_charges rows p.few)
-    ∙ ap (λ (xs : List ℕ). record { width = n; rows = xs }) kept
-
 -- as a table answers: the row cut to the width, and none past the count
 pub trimmed_read : (n : ℕ) (rows : List ℕ) (charge : ℕ) → 1 ≤ charge → charge ≤ count_of (trimmed n rows)
     → both (slice_index rows (charge - 1)) (all_below (nearest_width n)) ≡ row_of (trimmed n rows) charge

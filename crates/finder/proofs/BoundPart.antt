@@ -6,7 +6,7 @@ use Rattle.closed.specs.Closed.{Query}
 use Rattle.finder.specs.declared.finder.Finder.{Finder}
 use Rattle.finder.specs.Found.{how_many}
 use Rattle.finder.specs.Runs.{Entry, BoundPart}
-use Rattle.finder.specs.Worked.{Run}
+use Rattle.finder.specs.Running.{Run}
 use Rattle.finder.proofs.Listing.{found_at, turns_few, opened_grows}
 use Rattle.finder.proofs.Standing.{OfList, Standing, shows_list}
 

@@ -10,7 +10,7 @@ use Rattle.finder.specs.declared.finder.Finder.{Finder}
 use Rattle.finder.specs.declared.step.Step.TheVariants.{End}
 use Rattle.finder.specs.Found.{how_many, kth_record, opened_at_end}
 use Rattle.finder.specs.Runs.{Entry, next, handed_out, nodes_of, EndTells, CountPart}
-use Rattle.finder.specs.Worked.{Does, Run}
+use Rattle.finder.specs.Running.{Does, Run}
 use Rattle.finder.proofs.Handing.{handed_nil, handed_last}
 use Rattle.finder.proofs.Listing.{found_at, kth_more, opened_counts, opened_all}
 use Rattle.finder.proofs.Standing.{Standing, amid, shows_list}

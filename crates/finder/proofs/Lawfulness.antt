@@ -3,7 +3,7 @@ use Rattle.std.proofs.Common.{ℕ, Bool, [], sym, refl, arith}
 use Rattle.marks.specs.Kinds.{Support}
 use Rattle.tables.specs.Meaning.{Meaning, Proper}
 use Rattle.finder.specs.Calls.{begun, query_of}
-use Rattle.finder.specs.Worked.{EveryRunLawful}
+use Rattle.finder.specs.Running.{EveryRunLawful}
 use Rattle.finder.proofs.Handing.{handed_none}
 use Rattle.finder.proofs.Listing.{last_at_none}
 use Rattle.finder.proofs.Standing.{Standing}

@@ -6,15 +6,15 @@ use Rattle.marks.specs.declared.refusal.Refusal.{Refusal}
 use Rattle.marks.specs.Refusals.{unplaced}
 use Rattle.tables.specs.Meaning.{Meaning, Proper}
 use Rattle.found.specs.declared.record.Record.{Record}
-use Rattle.found.specs.Records.{record_length, slot_refusal}
+use Rattle.found.specs.Records.{record_length, written, slot_refusal}
 use Rattle.closed.specs.Closed.{Query}
 use Rattle.finder.specs.declared.finder.Finder.{Finder}
 use Rattle.finder.specs.declared.finder.Last.{Last}
 use Rattle.finder.specs.declared.step.Step.{Step}
 use Rattle.finder.specs.declared.step.Step.TheVariants.{Found, End}
-use Rattle.finder.specs.Found.{how_many, last_of, last_at_place, look_refusal, written}
+use Rattle.finder.specs.Found.{how_many, last_of, last_at_place, look_refusal}
 use Rattle.finder.specs.Runs.{Entry, next, look, rewind, handed_out, ShowsItsPlace, NextTells, LookTells, Tells, ListPart}
-use Rattle.finder.specs.Worked.{Does, Run}
+use Rattle.finder.specs.Running.{Does, Run}
 use Rattle.finder.proofs.Handing.{handed_length, handed_nil, handed_last, handed_first}
 use Rattle.finder.proofs.Listing.{found_at, shows_its_place, last_at_none, last_at_more}
 use Rattle.finder.proofs.Standing.{Standing, last_stands, shows_found, next_found, amid, shows_list}

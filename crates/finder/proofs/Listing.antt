@@ -7,7 +7,7 @@ use Rattle.std.specs.Option.{option_map_or}
 use Rattle.tables.specs.Meaning.{Proper}
 use Rattle.tables.specs.Holding.{support_of}
 use Rattle.found.specs.declared.record.Record.{Record}
-use Rattle.found.specs.Records.{record_bytes, record_length, record_at, no_record}
+use Rattle.found.specs.Records.{record_bytes, record_at, written, no_record}
 use Rattle.found.proofs.Laying.{record_back}
 use Rattle.closed.specs.Closed.{Query, listed, the_list}
 use Rattle.closed.specs.Families.{Listed, subsets, turn_count}
@@ -16,7 +16,7 @@ use Rattle.closed.proofs.Ordered.{length_subsets, place_listed}
 use Rattle.closed.proofs.Stepping.{small_below}
 use Rattle.closed.proofs.Growing.{tree_law}
 use Rattle.closed.proofs.Bounding.{turn_count_bound, turn_count_next, entries_follow}
-use Rattle.finder.specs.Found.{how_many, record_of, records, kth_record, last_of, last_at_place, opened_at_end, written}
+use Rattle.finder.specs.Found.{how_many, record_of, records, kth_record, last_of, last_at_place, opened_at_end}
 use Rattle.finder.specs.declared.finder.Last.{Last}
 use Rattle.finder.specs.Runs.{ShowsItsPlace, nodes_of}
 use Rattle.tables.proofs.Passing.{support_few}
@@ -118,7 +118,7 @@ module _ (q : Query) where
     -- so the bytes of a record tell it
     pub written_back : (k : ℕ) → k < how_many q → (slot : List ℕ) → record_at (written (found_at k) slot) 0 ≡ found_at k
     written_back k h slot =
-        bytes_first (found_at k) (drop record_length slot)
+        bytes_first (found_at k) (drop (length (record_bytes (found_at k))) slot)
         ∙ record_back (found_at k) (set_fits k h) (support_fits (set_at k)) (ordinal_fits (k + 1) (omega arith)) (opened_fits k h)
 
   -- ---- what they say

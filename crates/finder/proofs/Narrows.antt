@@ -21,7 +21,7 @@ use Rattle.closed.proofs.Fitting.{narrowed_exact, alive_some, dead_none}
 use Rattle.closed.proofs.Narrowing.{dead_lives, narrow_by_closures, narrow_exact, narrow_out_below}
 use Rattle.finder.specs.declared.narrowing.Node.{Node}
 use Rattle.finder.specs.declared.tally.Tally.{Tally}
-use Rattle.finder.specs.Nodes.{node_of, passes}
+use Rattle.finder.specs.Nodes.{node_of, holding_passes}
 use Rattle.finder.specs.Tallies.{no_holding, tally_of}
 use Rattle.finder.proofs.Tallying.{tally_with}
 
@@ -40,9 +40,9 @@ module _ (q : Query) (i o : ℕ) where
         below_from_part q.table.width i (part_fact i _ (not-false _ (or_parts _ (above q.table.width i) parts.0).1))
 
     module _ (small : q.table.width ≤ most_marks) (parts : AllowsParts q.allowed) (tally : Tally) (is : tally ≡ tally_of q.table i) where
-      own_is : passes q o tally.own ≡ passes q o (holding_of q.table i)
+      own_is : holding_passes q o tally.own ≡ holding_passes q o (holding_of q.table i)
       unfolding tally_of
-      own_is = ap (λ t. passes q o t.own) is
+      own_is = ap (λ t. holding_passes q o t.own) is
 
       own_closure : tally.own.closure.bits ≡ closure_of q.table i
       unfolding tally_of
@@ -52,39 +52,39 @@ module _ (q : Query) (i o : ℕ) where
       unfolding tally_of
       own_support = ap (λ t. t.own.support) is
 
-      pub refused_dead : passes q o tally.own ≡ false → narrow_refusal q i o ≡ Some (unplaced DeadEnd)
+      pub refused_dead : holding_passes q o tally.own ≡ false → narrow_refusal q i o ≡ Some (unplaced DeadEnd)
       unfolding narrow_refusal
       refused_dead e =
           let d : dead (listed q) q.table.width i o ≡ true =
-          dead_lives q small parts i o in_below ∙ not_from_false (passes q o (holding_of q.table i)) (sym own_is ∙ e) in
+          dead_lives q small parts i o in_below ∙ not_from_false (holding_passes q o (holding_of q.table i)) (sym own_is ∙ e) in
           rw (fair, d)
 
-      module _ (alive : passes q o tally.own ≡ true) where
+      module _ (alive : holding_passes q o tally.own ≡ true) where
         not_dead : dead (listed q) q.table.width i o ≡ false
-        not_dead = dead_lives q small parts i o in_below ∙ not_from_true (passes q o (holding_of q.table i)) (sym own_is ∙ alive)
+        not_dead = dead_lives q small parts i o in_below ∙ not_from_true (holding_passes q o (holding_of q.table i)) (sym own_is ∙ alive)
 
         pub accepted : narrow_refusal q i o ≡ None
         unfolding narrow_refusal
         accepted = let d = not_dead in rw (fair, d)
 
         pub narrowed_node : (ins outs support : ℕ) → ins ≡ tally.own.closure.bits → support ≡ tally.own.support
-            → outs ≡ picked (λ b. not (passes q o (get_or tally.marks b no_holding))) q.table.width
+            → outs ≡ picked (λ b. not (holding_passes q o (get_or tally.marks b no_holding))) q.table.width
             → made ins outs support ≡ node_of q i o
         narrowed_node ins outs support e s f =
             ap (λ x. made x outs support) (ins_is (e ∙ own_closure)) ∙ ap (λ x. made (narrow_in q i o) x support) (f ∙ outs_are)
             ∙ ap (made (narrow_in q i o) (narrow_out q i o)) (s ∙ own_support ∙ sym (support_closure q.table i in_below) ∙ ap (support_of q.table) by_closures.0)
           where
-            by_closures : (closure_of q.table i ≡ narrow_in q i o) × (picked (λ b. not (passes q o (holding_of q.table (with_bit i b)))) q.table.width ≡ narrow_out q i o)
+            by_closures : (closure_of q.table i ≡ narrow_in q i o) × (picked (λ b. not (holding_passes q o (holding_of q.table (with_bit i b)))) q.table.width ≡ narrow_out q i o)
             by_closures = narrow_by_closures q small parts i o in_below (sym own_is ∙ alive)
 
             ins_is : ins ≡ closure_of q.table i → ins ≡ narrow_in q i o
             ins_is x = x ∙ by_closures.0
 
-            outs_are : picked (λ b. not (passes q o (get_or tally.marks b no_holding))) q.table.width ≡ narrow_out q i o
+            outs_are : picked (λ b. not (holding_passes q o (get_or tally.marks b no_holding))) q.table.width ≡ narrow_out q i o
             outs_are =
-                picked_same (λ b. not (passes q o (get_or tally.marks b no_holding)))
-                (λ b. not (passes q o (holding_of q.table (with_bit i b)))) q.table.width
-                (λ b l. ap (λ h. not (passes q o h)) (ap (λ t. get_or t.marks b no_holding) is ∙ tally_with q.table i b (omega (arith, small))))
+                picked_same (λ b. not (holding_passes q o (get_or tally.marks b no_holding)))
+                (λ b. not (holding_passes q o (holding_of q.table (with_bit i b)))) q.table.width
+                (λ b l. ap (λ h. not (holding_passes q o h)) (ap (λ t. get_or t.marks b no_holding) is ∙ tally_with q.table i b (omega (arith, small))))
                 ∙ by_closures.1
 
 -- which tests failed where nothing is refused

@@ -7,7 +7,7 @@ use Rattle.finder.specs.declared.transcripts.Move.{Move}
 use Rattle.finder.specs.declared.transcripts.Told.{Told}
 use Rattle.finder.specs.Runs.{Entry}
 use Rattle.finder.specs.Transcripts.{move_of, entry_of}
-use Rattle.finder.specs.Worked.{Does, Run}
+use Rattle.finder.specs.Running.{Does, Run}
 
 module _ {T W : Type 0} (meaning : T → Meaning) (allowed : W → ℕ → Bool) where
   -- one call more at the end of a run

@@ -4,16 +4,16 @@ use Rattle.std.specs.List.{ContainsAt as Has}
 use Rattle.std.proofs.ByRecursion.{has_append_cases, has_push_cases}
 use Rattle.tables.specs.Meaning.{Meaning, Proper}
 use Rattle.found.specs.declared.record.Record.{Record}
-use Rattle.found.specs.Records.{record_at}
+use Rattle.found.specs.Records.{record_at, written}
 use Rattle.closed.specs.Closed.{Query}
 use Rattle.finder.specs.declared.finder.Finder.{Finder}
 use Rattle.finder.specs.declared.finder.Last.{Last}
 use Rattle.finder.specs.declared.step.Step.TheVariants.{Found, End}
 use Rattle.finder.specs.Asked.{asked}
 use Rattle.finder.specs.Calls.{query_of, Shows, Stands}
-use Rattle.finder.specs.Found.{how_many, kth_record, last_at_place, written}
+use Rattle.finder.specs.Found.{how_many, kth_record, last_at_place}
 use Rattle.finder.specs.Runs.{Entry, next, look, rewind, handed, shown_by, shown}
-use Rattle.finder.specs.Worked.{Does, Run}
+use Rattle.finder.specs.Running.{Does, Run}
 use Rattle.finder.proofs.Handing.{Handed, handed_none, handed_more}
 use Rattle.finder.proofs.Listing.{found_at, kth_more, last_at_none, last_at_some, written_back}
 

@@ -3,14 +3,14 @@ use Rattle.std.specs.Prelude.{◌≡◌, ℕ, ◌+◌, ◌<◌, ◌≤◌, Bool,
 use Rattle.marks.specs.Kinds.{Support}
 use Rattle.marks.specs.declared.refusal.Refusal.{Refusal}
 use Rattle.tables.specs.Meaning.{Meaning}
-use Rattle.found.specs.Records.{slot_refusal}
+use Rattle.found.specs.Records.{written, slot_refusal}
 use Rattle.closed.specs.Closed.{Query}
 use Rattle.finder.specs.Asked.{asked}
 use Rattle.finder.specs.declared.finder.Finder.{Finder}
 use Rattle.finder.specs.declared.finder.Last.{Last}
 use Rattle.finder.specs.declared.step.Step.{Step}
 use Rattle.finder.specs.declared.step.Step.TheVariants.{Found, End}
-use Rattle.finder.specs.Found.{how_many, last_at_place, opened_at_end, written, look_refusal}
+use Rattle.finder.specs.Found.{how_many, last_at_place, opened_at_end, look_refusal}
 
 -- a finder that is fresh from begin
 abbrev pub begun : {T W : Type 0} → T → W → Support → Finder T W

@@ -1,5 +1,5 @@
 -- The records of a list, and what is opened on the way.
-use Rattle.std.specs.Prelude.{ℕ, ◌+◌, ◌-◌, ◌*◌, cond, List, [], ◌∷◌, ◌++◌, map, length, drop, Some, None, Option, ◌==◌, slice_index, slice_index_or}
+use Rattle.std.specs.Prelude.{ℕ, ◌+◌, ◌-◌, ◌*◌, cond, List, [], ◌∷◌, map, length, Some, None, Option, ◌==◌, slice_index, slice_index_or}
 use Rattle.std.specs.List.{range_with_len}
 use Rattle.std.specs.Option.{is_none}
 use Rattle.marks.specs.declared.refusal.Reason.TheVariants.{NothingYet}
@@ -7,7 +7,7 @@ use Rattle.marks.specs.declared.refusal.Refusal.{Refusal}
 use Rattle.marks.specs.Refusals.{unplaced, due_if, first_due}
 use Rattle.tables.specs.Holding.{support_of}
 use Rattle.found.specs.declared.record.Record.{Record}
-use Rattle.found.specs.Records.{record_bytes, record_length, slot_refusal, no_record}
+use Rattle.found.specs.Records.{slot_refusal, no_record}
 use Rattle.closed.specs.Families.{turns, turn_count}
 use Rattle.closed.specs.Closed.{Query, listed, the_list}
 use Rattle.finder.specs.declared.finder.Last.{Last}
@@ -44,10 +44,6 @@ last_at_place q k = cond (k == 0) None (Some (last_of q (kth_record q k)))
 -- how many nodes are opened once the list is out after k sets: those up to the last set, or the root alone where there is none
 abbrev pub opened_at_end : Query → ℕ → ℕ
 opened_at_end q k = cond (k == 0) 1 (kth_record q k).opened
-
--- what a slot holds once a record was written into it: the record, and past it what it held
-abbrev pub written : Record → List ℕ → List ℕ
-written r slot = record_bytes r ++ drop record_length slot
 
 -- looking at the last set, if there is one, with a slot of so many bytes
 abbrev pub look_refusal : ℕ → Option Last → Option Refusal

@@ -4,7 +4,7 @@ pub mod Nodes
 pub mod Found
 pub mod Calls
 pub mod Runs
-pub mod Worked
+pub mod Running
 pub mod Transcripts
 pub mod Whole
 pub mod Descents

@@ -10,5 +10,5 @@ abbrev pub node_of : Query → ℕ → ℕ → Node
 node_of q i o = record { ins = record { bits = narrow_in q i o }; outs = record { bits = narrow_out q i o }; support = support_of q.table (narrow_in q i o) }
 
 -- the closure of a set of which this is known is wanted, and has no mark of o
-abbrev pub passes : Query → ℕ → Holding → Bool
-passes q o holding = closure_passes q.allowed q.least o holding.support holding.closure.bits
+abbrev pub holding_passes : Query → ℕ → Holding → Bool
+holding_passes q o holding = closure_passes q.allowed q.least o holding.support holding.closure.bits

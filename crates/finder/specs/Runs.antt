@@ -13,7 +13,7 @@ use Rattle.closed.specs.Trees.{Tree, node_tree, nodes, upto_leaf, TreeLaw}
 use Rattle.closed.specs.Closed.{Query, listed, the_list}
 use Rattle.finder.specs.declared.step.Step.{Step}
 use Rattle.finder.specs.declared.step.Step.TheVariants.{Found, End}
-use Rattle.finder.specs.Found.{how_many, written}
+use Rattle.finder.specs.Found.{how_many}
 
 -- One call and its answer. Of next and look: what the slot held, the answer, and what the slot then holds.
 pub data Entry : Type 0 where

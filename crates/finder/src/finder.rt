@@ -3,7 +3,7 @@ ghost use Rattle.std.specs.Prelude.{◌≡◌};
 ghost use Rattle.closed.specs.Closed.{ListLaws};
 ghost use Rattle.finder.specs.Calls.{begun, rewound, query_of, NextDone, LookDone};
 ghost use Rattle.finder.specs.Runs.{ListTree};
-ghost use Rattle.finder.specs.Worked.{EveryRunLawful};
+ghost use Rattle.finder.specs.Running.{EveryRunLawful};
 
 pub mod descent;
 

@@ -5,7 +5,7 @@ ghost use Rattle.marks.specs.Sets.{picked};
 ghost use Rattle.closed.specs.Closed.{query, listed, clash, ListLaws, Refuses, narrow_refusal};
 ghost use Rattle.closed.specs.Walks.{Exact};
 ghost use Rattle.finder.specs.Asked.{asked};
-ghost use Rattle.finder.specs.Nodes.{node_of, passes};
+ghost use Rattle.finder.specs.Nodes.{node_of, holding_passes};
 ghost use Rattle.finder.specs.Tallies.{no_holding};
 
 use crate::tally::Tally;
@@ -43,7 +43,7 @@ fn clashes(width: Width, ins: MarkSet, outs: MarkSet) -> bool
 impl<T: Table, W: Limit> Query<T, W> {
     // Whether the closure of a set is wanted, and has no mark that is put out. The limit is asked about the closure, not about the set.
     fn wants(&self, holding: Holding, outs: MarkSet) -> bool
-        ensures { result ≡ passes (asked T.Table.meaning W.Limit.allowed self.now) outs.bits holding }
+        ensures { result ≡ holding_passes (asked T.Table.meaning W.Limit.allowed self.now) outs.bits holding }
     {
         self.support.get() <= holding.support()
             && self.limit.allows(holding.closure())
@@ -52,7 +52,7 @@ impl<T: Table, W: Limit> Query<T, W> {
 
     // The marks up to the width with which no listed set fits.
     fn excluded(&self, tally: &Tally, outs: MarkSet) -> MarkSet
-        ensures { result.bits ≡ picked (λ b. not (passes (asked T.Table.meaning W.Limit.allowed self.now) outs.bits (slice_index_or tally.now.marks b no_holding))) (T.Table.meaning self.now.table).width }
+        ensures { result.bits ≡ picked (λ b. not (holding_passes (asked T.Table.meaning W.Limit.allowed self.now) outs.bits (slice_index_or tally.now.marks b no_holding))) (T.Table.meaning self.now.table).width }
     {
         MarkSet::up_to(self.table.width()).filter(|mark| !self.wants(tally.with(mark), outs))
     }

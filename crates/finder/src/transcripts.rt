@@ -2,7 +2,7 @@
 ghost use Rattle.std.specs.Prelude.{◌≡◌, IfOk};
 ghost use Rattle.closed.specs.Closed.{query};
 ghost use Rattle.finder.specs.Transcripts.{move_of, entry_of, TranscriptOf};
-ghost use Rattle.finder.specs.Worked.{Does};
+ghost use Rattle.finder.specs.Running.{Does};
 
 use crate::finder::Finder;
 use crate::step::Step;

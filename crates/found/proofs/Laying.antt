@@ -1,10 +1,11 @@
 -- Bytes and numbers, both ways.
-use Rattle.std.proofs.Common.{◌≡◌, ℕ, zero, suc, ◌+◌, ◌*◌, ◌^◌, ◌<◌, List, [], get_or, drop, ap, ◌∙◌, arith, lit<, zero-add}
+use Rattle.std.proofs.Common.{◌≡◌, ℕ, zero, suc, ◌+◌, ◌*◌, ◌^◌, ◌<◌, List, [], length, get_or, drop, refl, ap, ◌∙◌, arith, lit<, zero-add}
 use Rattle.std.proofs.lemmas.List.{get_or-take, get_or-drop}
 use Rattle.std.proofs.lemmas.Nat.{from_le_bytes-to_le_bytes_4, from_le_bytes-to_le_bytes_8}
 use Rattle.std.specs.Simd.{first_chunks}
+use Rattle.marks.specs.Bytes.{four_at, eight_at}
 use Rattle.found.specs.declared.record.Record.{Record}
-use Rattle.found.specs.Records.{record_length, record_bytes, record_at, four_at, eight_at}
+use Rattle.found.specs.Records.{record_length, record_bytes, record_at}
 
 pub record_back : (r : Record) → r.set.bits < 2 ^ 32 → r.support < 2 ^ 32 → r.ordinal < 2 ^ 64 → r.opened < 2 ^ 64 → record_at (record_bytes r) 0 ≡ r
 unfolding record_bytes record_at
@@ -14,6 +15,10 @@ record_back r s u o p =
     let ordinal = from_le_bytes-to_le_bytes_8 r.ordinal o in
     let opened = from_le_bytes-to_le_bytes_8 r.opened p in
     λ i. record { set = record { bits = set i }; support = support i; ordinal = ordinal i; opened = opened i }
+
+pub record_size : (r : Record) → length (record_bytes r) ≡ record_length
+unfolding record_bytes
+record_size r = refl
 
 -- ---- bytes that stand in other bytes
 

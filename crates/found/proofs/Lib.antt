@@ -1,4 +1,3 @@
 pub mod Laying
 pub mod Marked
 pub mod ReadBack
-pub mod Writing

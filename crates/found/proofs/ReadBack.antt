@@ -9,6 +9,7 @@ use Rattle.std.proofs.Math.Seq.{drop-cons}
 use Rattle.std.proofs.lemmas.List.{get_or_past, get_or_default, get_or-map, length-map, length-take-le, map-append, set-append_right, take_at, take_more, ext_get_or}
 use Rattle.std.proofs.lemmas.Bool.{cases_eq, cases_lt, cases_Bool, both_ways, eqb-true, eq-eqb, ne_eqb, lt-ltb, le-ltb, le-leb, lt-leb}
 use Rattle.marks.specs.declared.refusal.Reason.TheVariants.{Ragged, NoPlace, OutOfOrder}
+use Rattle.marks.specs.Memory.{put_in_front}
 use Rattle.marks.specs.Orders.{Before, After, FirstUnordered}
 use Rattle.marks.specs.Places.{first_place}
 use Rattle.marks.specs.Refusals.{unplaced, placed_at}
@@ -18,7 +19,7 @@ use Rattle.marks.proofs.Places.{first_number_some, first_number_none}
 use Rattle.marks.specs.SetOrder.{before_decided, same_undecided}
 use Rattle.marks.specs.Sizes.{trailing_lowest}
 use Rattle.found.specs.declared.record.Record.{Record}
-use Rattle.found.specs.Records.{record_length, record_at, found_records, comes_before, TellsListOrder, no_record, unordered, read_refusal, read_memory}
+use Rattle.found.specs.Records.{record_length, record_at, found_records, comes_before, TellsListOrder, no_record, unordered, read_back_refusal, read_back_memory}
 use Rattle.found.proofs.Laying.{record_in}
 
 -- ---- the order
@@ -94,17 +95,25 @@ module _ (bytes : List ℕ) where
 
 -- what the store of one more makes of memory
 module _ {X Y : Type 0} (f : X → Y) (xs : List X) (old : List Y) where
-  pub one_more : {memory : List Y} (i : ℕ) (d : X) → i < length xs → length xs ≤ length old → memory ≡ map f (take i xs) ++ drop i old
-      → set memory i (f (get_or xs i d)) ≡ map f (take (i + 1) xs) ++ drop (i + 1) old
-  one_more i d h room e =
+  front_size : (i : ℕ) → i ≤ length xs → length (map f (take i xs)) ≡ i
+  front_size i h = length-map (take i xs) f ∙ length-take-le i xs h
+
+  in_front : (i : ℕ) → i ≤ length xs → put_in_front (map f (take i xs)) old ≡ map f (take i xs) ++ drop i old
+  in_front i h = ap (λ n. map f (take i xs) ++ drop n old) (front_size i h)
+
+  pub one_more : {memory : List Y} (i : ℕ) (d : X) → i < length xs → length xs ≤ length old → memory ≡ put_in_front (map f (take i xs)) old
+      → set memory i (f (get_or xs i d)) ≡ put_in_front (map f (take (i + 1) xs)) old
+  one_more {memory = memory} i d h room e =
       let x = get_or xs i d in
       let front = map f (take i xs) in
-      let size : length front ≡ i = length-map (take i xs) f ∙ length-take-le i xs (omega arith) in
+      let size = front_size i (omega arith) in
+      let whole = e ∙ in_front i (omega arith) in
       let none : i - i ≡ 0 = omega arith in
       let rest : drop i old ≡ get_or old i (f x) ∷ drop (suc i) old = drop-cons old i (f x) (omega arith) in
       let step : set (front ++ drop i old) i (f x) ≡ front ++ (f x ∷ drop (suc i) old) = set-append_right front (drop i old) i i (f x) size (omega arith) ∙ rw (none, rest) in
       let more : map f (take (i + 1) xs) ≡ front ++ (f x ∷ []) = ap (map f) (take_more xs i d h) ∙ map-append f (take i xs) (x ∷ []) in
-      rw (e, step, more, add-one) (sym (append_assoc front (f x ∷ []) (drop (suc i) old)))
+      let plain : set memory i (f x) ≡ map f (take (i + 1) xs) ++ drop (i + 1) old = rw (whole, step, more, add-one) (sym (append_assoc front (f x ∷ []) (drop (suc i) old))) in
+      plain ∙ sym (in_front (i + 1) (omega arith))
 
 abbrev of_chunk : List ℕ → Record
 of_chunk chunk = record_at chunk 0
@@ -119,13 +128,13 @@ pub cut : {bytes : List ℕ} {chunks : List (List ℕ)} {stray : ℕ} → stray 
     → chunks ≡ first_chunks record_length (length bytes / record_length) bytes → length chunks ≡ length bytes / record_length → Cut bytes chunks
 cut {stray = stray} s none e n = record { whole = sym s ∙ eqb-true stray 0 (sym none); parts = e; count = n }
 
-pub kept_ragged : (bytes : List ℕ) (old : List Record) → (length bytes % record_length ≡ 0 → ⊥) → old ≡ read_memory bytes old
-unfolding read_memory
+pub kept_ragged : (bytes : List ℕ) (old : List Record) → (length bytes % record_length ≡ 0 → ⊥) → old ≡ read_back_memory bytes old
+unfolding read_back_memory
 kept_ragged bytes old ragged = rw (ne_eqb (length bytes % record_length) 0 ragged)
 
 module _ {bytes : List ℕ} {chunks : List (List ℕ)} (c : Cut bytes chunks) where
-  pub kept_short : (old : List Record) → length old < length chunks → old ≡ read_memory bytes old
-  unfolding read_memory
+  pub kept_short : (old : List Record) → length old < length chunks → old ≡ read_back_memory bytes old
+  unfolding read_back_memory
   kept_short old short = rw (eq-eqb (length bytes % record_length) 0 c.whole, lt-leb (length bytes / record_length) (length old) (omega (arith, c.count)))
 
   of_chunks : map (λ chunk. record_at chunk 0) chunks ≡ found_records bytes
@@ -134,10 +143,10 @@ module _ {bytes : List ℕ} {chunks : List (List ℕ)} (c : Cut bytes chunks) wh
       (λ k h. let l : k < length bytes / record_length = omega (arith, length-map chunks of_chunk, c.count) in
       get_or-map of_chunk chunks k [] no_record (omega (arith, c.count)) ∙ record_in (length bytes / record_length) bytes chunks k l c.parts ∙ sym (found_at bytes k l))
 
-  module _ (old new : List Record) (is : new ≡ map (λ chunk. record_at chunk 0) chunks ++ drop (length chunks) old) where
-    pub filled : length chunks ≤ length old → new ≡ read_memory bytes old
-    unfolding read_memory
-    filled room = rw (eq-eqb (length bytes % record_length) 0 c.whole, le-leb (length bytes / record_length) (length old) (omega (arith, c.count))) (is ∙ rw (of_chunks, c.count))
+  module _ (old new : List Record) (is : new ≡ put_in_front (map (λ chunk. record_at chunk 0) chunks) old) where
+    pub filled : length chunks ≤ length old → new ≡ read_back_memory bytes old
+    unfolding read_back_memory
+    filled room = rw (eq-eqb (length bytes % record_length) 0 c.whole, le-leb (length bytes / record_length) (length old) (omega (arith, c.count))) (is ∙ ap (λ records. put_in_front records old) of_chunks)
 
     -- what the check of neighbours says of the records in front
     pub judged : ((i : ℕ) → get_or bytes i 0 < 256) → (o : Option ℕ) → FirstUnordered RecordBefore (take (length chunks - 0) new) o
@@ -145,27 +154,27 @@ module _ {bytes : List ℕ} {chunks : List (List ℕ)} (c : Cut bytes chunks) wh
     judged fits o h =
         let size : length (found_records bytes) ≡ length chunks - 0 = omega (arith, found_length bytes, c.count) in
         let front : take (length chunks - 0) new ≡ found_records bytes =
-        rw (is, of_chunks) (take_at (found_records bytes) (drop (length chunks) old) (length chunks - 0) size)
+        rw (is, of_chunks) (take_at (found_records bytes) (drop (length (found_records bytes)) old) (length chunks - 0) size)
         in
         ap (λ n. first_place (unordered (found_records bytes)) (range_with_len 0 n)) (sym (found_length bytes))
         ∙ place_of (found_records bytes) (found_small bytes fits) o (subst (λ l. FirstUnordered RecordBefore l o) front h)
 
 -- ---- refused
 
-pub refused_ragged : (bytes : List ℕ) (room : ℕ) → (length bytes % record_length ≡ 0 → ⊥) → read_refusal bytes room ≡ Some (unplaced Ragged)
-unfolding read_refusal
+pub refused_ragged : (bytes : List ℕ) (room : ℕ) → (length bytes % record_length ≡ 0 → ⊥) → read_back_refusal bytes room ≡ Some (unplaced Ragged)
+unfolding read_back_refusal
 refused_ragged bytes room ragged = rw (ne_eqb (length bytes % record_length) 0 ragged)
 
 module _ {bytes : List ℕ} {chunks : List (List ℕ)} (c : Cut bytes chunks) (room : ℕ) where
-  pub refused_place : room < length chunks → read_refusal bytes room ≡ Some (unplaced NoPlace)
-  unfolding read_refusal
+  pub refused_place : room < length chunks → read_back_refusal bytes room ≡ Some (unplaced NoPlace)
+  unfolding read_back_refusal
   refused_place short = rw (eq-eqb (length bytes % record_length) 0 c.whole, lt-ltb room (length bytes / record_length) (omega (arith, c.count)))
 
   pub refused_order : length chunks ≤ room → (place : ℕ) → first_place (unordered (found_records bytes)) (range_with_len 0 (length bytes / record_length)) ≡ Some place
-      → read_refusal bytes room ≡ Some (placed_at OutOfOrder place)
-  unfolding read_refusal
+      → read_back_refusal bytes room ≡ Some (placed_at OutOfOrder place)
+  unfolding read_back_refusal
   refused_order fits place e = rw (eq-eqb (length bytes % record_length) 0 c.whole, le-ltb room (length bytes / record_length) (omega (arith, c.count)), e)
 
-  pub accepted : length chunks ≤ room → first_place (unordered (found_records bytes)) (range_with_len 0 (length bytes / record_length)) ≡ None → read_refusal bytes room ≡ None
-  unfolding read_refusal
+  pub accepted : length chunks ≤ room → first_place (unordered (found_records bytes)) (range_with_len 0 (length bytes / record_length)) ≡ None → read_back_refusal bytes room ≡ None
+  unfolding read_back_refusal
   accepted fits e = rw (eq-eqb (length bytes % record_length) 0 c.whole, le-ltb room (length bytes / record_length) (omega (arith, c.count)), e)

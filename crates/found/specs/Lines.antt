@@ -1,7 +1,8 @@
 -- The printed lines, as bytes, and what is written into memory.
-use Rattle.std.specs.Prelude.{◌≡◌, ℕ, zero, suc, ◌+◌, cond, List, [], ◌++◌, length, drop, codes, decimal, Option, Result, nat_lt}
+use Rattle.std.specs.Prelude.{◌≡◌, ℕ, zero, suc, ◌+◌, cond, List, [], ◌++◌, length, codes, decimal, Option, Result, nat_lt}
 use Rattle.marks.specs.declared.refusal.Reason.TheVariants.{NoPlace}
 use Rattle.marks.specs.declared.refusal.Refusal.{Refusal}
+use Rattle.marks.specs.Memory.{put_in_front}
 use Rattle.marks.specs.Numbers.{most_marks}
 use Rattle.marks.specs.Refusals.{Answers, unplaced, due_if}
 use Rattle.marks.specs.Sets.{has}
@@ -32,6 +33,6 @@ end_text sets opened = (codes "sets " ++ decimal sets) ++ ((codes " opened " ++ 
 abbrev pub place_refusal : ℕ → ℕ → Option Refusal
 place_refusal size room = due_if (nat_lt room size) (unplaced NoPlace)
 
--- a text handed out into memory, and how many bytes it has: it stands at the front, and past it all is as it was
+-- a text handed out into memory, and how many bytes it has
 abbrev pub HandedOut : List ℕ → List ℕ → List ℕ → Result ℕ Refusal → Type 0
-HandedOut text old new = Answers (place_refusal (length text) (length old)) (λ n. (n ≡ length text) × (new ≡ text ++ drop (length text) old))
+HandedOut text old new = Answers (place_refusal (length text) (length old)) (λ n. (n ≡ length text) × (new ≡ put_in_front text old))

@@ -1,10 +1,12 @@
 -- Found records: how they lie in bytes, and which records bytes hold.
-use Rattle.std.specs.Prelude.{ℕ, ◌+◌, ◌-◌, ◌*◌, ◌/◌, ◌%◌, ◌^◌, ◌<◌, Bool, cond, not, ◌&&◌, List, [], ◌∷◌, ◌++◌, map, length, drop, Decides, Option, ◌==◌, nat_le, nat_lt, slice_index, slice_index_or}
+use Rattle.std.specs.Prelude.{ℕ, ◌+◌, ◌-◌, ◌*◌, ◌/◌, ◌%◌, ◌^◌, ◌<◌, Bool, cond, not, ◌&&◌, List, [], ◌∷◌, ◌++◌, map, length, Decides, Option, ◌==◌, nat_le, nat_lt, slice_index_or}
 use Rattle.std.specs.Int.Count.{count_trailing_zeros}
 use Rattle.std.specs.List.{range_with_len}
 use Rattle.std.specs.Option.{option_map}
 use Rattle.marks.specs.declared.refusal.Reason.TheVariants.{ShortSlot, Ragged, NoPlace, OutOfOrder}
 use Rattle.marks.specs.declared.refusal.Refusal.{Refusal}
+use Rattle.marks.specs.Bytes.{four_bytes, eight_bytes, four_at, eight_at}
+use Rattle.marks.specs.Memory.{put_in_front}
 use Rattle.marks.specs.Numbers.{most_marks}
 use Rattle.marks.specs.Orders.{Before}
 use Rattle.marks.specs.Places.{first_place}
@@ -12,30 +14,12 @@ use Rattle.marks.specs.Refusals.{unplaced, placed_at, due_if, first_due}
 use Rattle.marks.specs.Sets.{has, differing}
 use Rattle.found.specs.declared.record.Record.{Record}
 
--- a number in four and in eight bytes, low byte first
-abbrev pub four_bytes : ℕ → List ℕ
-four_bytes n = (n % 256) ∷ (n / 256 % 256) ∷ (n / 65536 % 256) ∷ (n / 16777216 % 256) ∷ []
-
-abbrev pub eight_bytes : ℕ → List ℕ
-eight_bytes n =
-    (n % 256) ∷ (n / 256 % 256) ∷ (n / 65536 % 256) ∷ (n / 16777216 % 256)
-    ∷ (n / 4294967296 % 256) ∷ (n / 1099511627776 % 256) ∷ (n / 281474976710656 % 256) ∷ (n / 72057594037927936 % 256) ∷ []
-
 -- The layout of a record, and how many bytes it has.
 unfoldable pub record_bytes : Record → List ℕ
 record_bytes r = four_bytes r.set.bits ++ (four_bytes r.support ++ (eight_bytes r.ordinal ++ eight_bytes r.opened))
 
 abbrev pub record_length : ℕ
 record_length = 24
-
--- the number in the four and in the eight bytes from a place on, which counts from 0
-abbrev pub four_at : List ℕ → ℕ → ℕ
-four_at bytes at = slice_index bytes at + slice_index bytes (at + 1) * 256 + slice_index bytes (at + 2) * 65536 + slice_index bytes (at + 3) * 16777216
-
-abbrev pub eight_at : List ℕ → ℕ → ℕ
-eight_at bytes at =
-    slice_index bytes at + slice_index bytes (at + 1) * 256 + slice_index bytes (at + 2) * 65536 + slice_index bytes (at + 3) * 16777216
-    + slice_index bytes (at + 4) * 4294967296 + slice_index bytes (at + 5) * 1099511627776 + slice_index bytes (at + 6) * 281474976710656 + slice_index bytes (at + 7) * 72057594037927936
 
 -- the record in the bytes from a place on
 unfoldable pub record_at : List ℕ → ℕ → Record
@@ -49,6 +33,10 @@ record_at bytes at = record {
 -- the records that bytes hold
 unfoldable pub found_records : List ℕ → List Record
 found_records bytes = map (λ k. record_at bytes (k * record_length)) (range_with_len 0 (length bytes / record_length))
+
+-- what a slot holds once a record is written into it
+abbrev pub written : Record → List ℕ → List ℕ
+written r slot = put_in_front (record_bytes r) slot
 
 -- writing a record into a slot of so many bytes
 abbrev pub slot_refusal : ℕ → Option Refusal
@@ -71,8 +59,8 @@ abbrev pub unordered : List Record → ℕ → Bool
 unordered records k = nat_lt 0 k && not (comes_before (slice_index_or records (k - 1) no_record).set.bits (slice_index_or records k no_record).set.bits)
 
 -- reading bytes back into memory for so many records
-unfoldable pub read_refusal : List ℕ → ℕ → Option Refusal
-read_refusal bytes room =
+unfoldable pub read_back_refusal : List ℕ → ℕ → Option Refusal
+read_back_refusal bytes room =
     first_due
     (due_if (not (length bytes % record_length == 0)) (unplaced Ragged)
     ∷ due_if (nat_lt room (length bytes / record_length)) (unplaced NoPlace)
@@ -80,6 +68,6 @@ read_refusal bytes room =
     ∷ [])
 
 -- What memory holds after bytes were read back: the records, and past them what it held; where they are ragged or do not fit, what it held.
-unfoldable pub read_memory : List ℕ → List Record → List Record
-read_memory bytes old =
-    cond (length bytes % record_length == 0 && nat_le (length bytes / record_length) (length old)) (found_records bytes ++ drop (length bytes / record_length) old) old
+unfoldable pub read_back_memory : List ℕ → List Record → List Record
+read_back_memory bytes old =
+    cond (length bytes % record_length == 0 && nat_le (length bytes / record_length) (length old)) (put_in_front (found_records bytes) old) old

@@ -1,7 +1,7 @@
 // Found records.
-ghost use Rattle.std.specs.Prelude.{◌≡◌, ◌++◌, length, drop};
+ghost use Rattle.std.specs.Prelude.{◌≡◌, length};
 ghost use Rattle.marks.specs.Refusals.{Answers, Kept};
-ghost use Rattle.found.specs.Records.{record_length, record_bytes, record_at, slot_refusal};
+ghost use Rattle.found.specs.Records.{record_bytes, record_at, written, slot_refusal};
 
 use marks::{MarkSet, Reason, Refusal};
 
@@ -53,7 +53,7 @@ impl Record {
     /// Writes the record into the first bytes of the slot, and leaves the rest.
     /// Refused: SHORT SLOT if the slot is shorter than a record; it is then as it was.
     pub fn write(self, slot: &mut [u8]) -> Result<(), Refusal>
-        ensures answer { Answers (slot_refusal (length slot.old)) (λ _. slot.new ≡ record_bytes self ++ drop record_length slot.old) result }
+        ensures answer { Answers (slot_refusal (length slot.old)) (λ _. slot.new ≡ written self slot.old) result }
         ensures kept { Kept slot.old slot.new result }
     {
         if slot.len() < RECORD_BYTES {

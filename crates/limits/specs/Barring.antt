@@ -43,30 +43,15 @@ module _ (pairs : List Pair) where
       in_order some = rw (after some no_pair) (grind arith)
 
   -- its lower mark not first
-  pub turned : (k : ℕ) → (get_or pairs k no_pair).second ≤ (get_or pairs k no_pair).first → misplaced pairs k ≡ true
-  turned k high = rw (le-ltb (get_or pairs k no_pair).first (get_or pairs k no_pair).second high)
+  pub high_first : (k : ℕ) → (get_or pairs k no_pair).second ≤ (get_or pairs k no_pair).first → misplaced pairs k ≡ true
+  high_first k high = rw (le-ltb (get_or pairs k no_pair).first (get_or pairs k no_pair).second high)
 
   -- not after the one at its left
-  pub unordered : (k : ℕ) → 0 < k → k < length pairs → (After PairBefore pairs k → ⊥) → misplaced pairs k ≡ true
-  unordered k some inside not_after =
+  pub out_of_order : (k : ℕ) → 0 < k → k < length pairs → (After PairBefore pairs k → ⊥) → misplaced pairs k ≡ true
+  out_of_order k some inside not_after =
       rw (lt-ltb 0 k some, before) (grind arith)
     where
       before : pair_before (slice_index_or pairs (k - 1) no_pair) (slice_index_or pairs k no_pair) ≡ false
       before =
           false_from_ne_true _
           (λ t. not_after (λ d. ap₂ pair_before (get_or_default pairs (k - 1) d no_pair (omega arith)) (get_or_default pairs k d no_pair inside) ∙ t))
-
-  -- ---- refused
-
-  pub refused_range : (place : ℕ) → first_place off_range pairs ≡ Some place → bars_refusal pairs ≡ Some (placed_at Range place)
-  unfolding bars_refusal
-  refused_range place e = rw e
-
-  pub refused_pair : first_place off_range pairs ≡ None → (place : ℕ) → first_place (misplaced pairs) (range_with_len 0 (length pairs)) ≡ Some place
-      → bars_refusal pairs ≡ Some (placed_at BadPair place)
-  unfolding bars_refusal
-  refused_pair marks place e = rw (marks, e)
-
-  pub accepted : first_place off_range pairs ≡ None → first_place (misplaced pairs) (range_with_len 0 (length pairs)) ≡ None → bars_refusal pairs ≡ None
-  unfolding bars_refusal
-  accepted marks e = rw (marks, e)

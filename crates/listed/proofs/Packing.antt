@@ -2,8 +2,6 @@
 use Rattle.std.proofs.Common.{◌≡◌, ℕ, suc, ◌+◌, ◌*◌, ◌/◌, ◌%◌, ◌^◌, ◌<◌, ◌≤◌, not, List, [], ◌∷◌, length, get_or, take, drop, None, refl, ap, ◌∙◌, arith, length-append}
 use Rattle.std.proofs.Math.Pow.{pow_mono}
 use Rattle.std.proofs.lemmas.Bool.{eq-eqb, le-ltb}
-use Rattle.std.proofs.lemmas.List.{take_at}
-use Rattle.std.proofs.lemmas.Nat.{from_le_bytes-to_le_bytes_4}
 use Rattle.marks.specs.Numbers.{most_marks, most_charges}
 use Rattle.marks.specs.Places.{first_place}
 use Rattle.marks.specs.Sets.{all_below}
@@ -14,21 +12,10 @@ use Rattle.sheets.specs.Accepting.{IsSheet}
 use Rattle.sheets.specs.Reading.{Reading, reading, packed_into}
 use Rattle.sheets.specs.Rendering.{packed_bytes}
 use Rattle.sheets.proofs.Accepted.{accepted as is_sheet}
-use Rattle.sheets.proofs.Passing.{length_packed}
+use Rattle.sheets.proofs.Passing.{length_packed, packed_front}
+use Rattle.sheets.proofs.Repacked.{rows_again}
 use Rattle.listed.specs.declared.asking.Asked.{Asked}
 use Rattle.listed.specs.Asking.{charge_bytes, IsPacked}
-
--- rows that were packed are the rows that their bytes hold
-pub rows_back : (rows : List ℕ) → ((k : ℕ) → get_or rows k 0 < 2 ^ 32) → packed_rows (packed_bytes rows) ≡ rows
-rows_back [] h = refl
-rows_back (row ∷ rows) h =
-    let first = from_le_bytes-to_le_bytes_4 row (h 0) in
-    let rest = rows_back rows (λ k. h (suc k)) in
-    λ i. first i ∷ rest i
-
--- the packed bytes stand in the front of memory
-pub packed_front : (rows old : List ℕ) (size : ℕ) → size ≡ row_bytes * length rows → take size (packed_into rows old) ≡ packed_bytes rows
-packed_front rows old size e = take_at (packed_bytes rows) (drop (row_bytes * length rows) old) size (omega (arith, length_packed rows))
 
 module _ (n : ℕ) (rows : List ℕ) (narrow : n ≤ most_marks) (within : (k : ℕ) → get_or rows k 0 < 2 ^ n) (few : length rows ≤ most_charges) where
   wide : (k : ℕ) → get_or rows k 0 < 2 ^ 32
@@ -45,10 +32,10 @@ module _ (n : ℕ) (rows : List ℕ) (narrow : n ≤ most_marks) (within : (k : 
   accepted =
       let whole : length (packed_bytes rows) % row_bytes ≡ 0 = omega (arith, length_packed rows) in
       let count : length (packed_bytes rows) / row_bytes ≤ most_charges = omega (arith, length_packed rows) in
-      rw (eq-eqb (length (packed_bytes rows) % row_bytes) 0 whole, le-ltb most_charges (length (packed_bytes rows) / row_bytes) count, rows_back rows wide, none_strays) refl
+      rw (eq-eqb (length (packed_bytes rows) % row_bytes) 0 whole, le-ltb most_charges (length (packed_bytes rows) / row_bytes) count, rows_again rows wide, none_strays) refl
 
   pub rows_are : packed_rows (packed_bytes rows) ≡ rows
-  rows_are = rows_back rows wide
+  rows_are = rows_again rows wide
 
 -- what was read without a fault is a packed table in the front of memory, of the rows that were read
 module _ (asked : Asked) (text old new : List ℕ) where
@@ -63,7 +50,9 @@ module _ (asked : Asked) (text old new : List ℕ) where
       let sheet : IsSheet n (length old) text rows = is_sheet n (length old) text narrow none in
       let size : row_bytes * asked.count ≡ row_bytes * length rows = ap (λ k. row_bytes * k) count in
       let bytes : charge_bytes new asked ≡ packed_bytes rows = ap (take (row_bytes * asked.count)) put ∙ packed_front rows old (row_bytes * asked.count) size in
-      let long : length new ≡ length (packed_bytes rows) + length (drop (row_bytes * length rows) old) = ap length put ∙ length-append (packed_bytes rows) (drop (row_bytes * length rows) old) in (
+      let long : length new ≡ length (packed_bytes rows) + length (drop (length (packed_bytes rows)) old) =
+      ap length put ∙ length-append (packed_bytes rows) (drop (length (packed_bytes rows)) old)
+      in (
         record {
           within = omega (arith, length_packed rows);
           accepted = ap (λ l. packed_refusal l n) bytes ∙ accepted n rows narrow sheet.within sheet.few;

@@ -11,18 +11,18 @@ use Rattle.marks.specs.Refusals.{Answers, placed_at_two, due_if}
 use Rattle.sheets.specs.declared.order.Order.{Order}
 use Rattle.sheets.specs.Accepting.{IsSheet}
 use Rattle.sheets.specs.Digits.{most_digits}
-use Rattle.sheets.specs.OrderLines.{number_ends, ended_numbers, number_start, number_in, numbers_in, number_ranges, range_due, ranges_refusal, columns_from, order_refusal, numbers_of, Begins, FitFor, Says, ReadsRightLines}
+use Rattle.sheets.specs.OrderLines.{number_ends, ended_numbers, number_start, number_in, numbers_in, number_ranges, bounds_refusal, ranges_refusal, columns_from, order_refusal, numbers_of, Begins, FitFor, Says, ReadsRightLines}
 use Rattle.sheets.specs.Reading.{Reading, reading}
 use Rattle.sheets.specs.Rendering.{render}
 use Rattle.sheets.proofs.Accepted.{accepted}
 use Rattle.sheets.proofs.Rendered.{sheet_read}
-use Rattle.listed.specs.Asking.{input_limit, sheet_room, sheet_in, sheet_reading, input_refusal, query_of, query_in, IsAsked, AsksUnlessFaulty, IsUnderstood}
+use Rattle.listed.specs.Asking.{input_limit, sheet_room, sheet_in, sheet_reading, input_refusal, windowed_query, query_in, IsAsked, AsksUnlessFaulty, IsUnderstood}
 use Rattle.listed.proofs.Orders.{sheet_fault}
 
 pub long_understood : (input : List ℕ) → input_limit ≤ length input → IsUnderstood input
 long_understood input long n least most first count rows asked = absurd (omega (arith, asked.short))
 
-ranged : (low high n column : ℕ) → low ≤ n → n ≤ high → range_due low high n column ≡ None
+ranged : (low high n column : ℕ) → low ≤ n → n ≤ high → bounds_refusal low high n column ≡ None
 ranged low high n column h l = ap (λ t. due_if (not t) (placed_at_two Range 0 column)) (and_from (leb low n) (leb n high) (le-leb low n h) (le-leb n high l))
 
 module _ (n least most first count : ℕ) (rows input : List ℕ) (asked : IsAsked n least most first count rows input) where
@@ -64,10 +64,10 @@ module _ (n least most first count : ℕ) (rows input : List ℕ) (asked : IsAsk
       let is : IsSheet n sheet_room (render rows) rows = record { rendered = refl; within = asked.within; few = omega (arith, asked.few); fits = omega (arith, asked.few); short = omega (arith, asked.short) } in
       (λ i. reading (width i) sheet_room (sheet i)) ∙ sheet_read n sheet_room (render rows) rows asked.width.1 is
 
-  query_same : numbers_in input ≡ numbers → sheet_reading input ≡ record { refusal = None; rows = rows } → query_in input ≡ query_of (record { width = n; rows = rows }) least most first count
+  query_same : numbers_in input ≡ numbers → sheet_reading input ≡ record { refusal = None; rows = rows } → query_in input ≡ windowed_query (record { width = n; rows = rows }) least most first count
   query_same same read =
       let at = λ (k : ℕ). ap (λ (l : List ℕ). get_or l k 0) same in
-      λ i. query_of (record { width = at 0 i; rows = (read i).rows }) (at 1 i) (at 2 i) (at 3 i) (at 4 i)
+      λ i. windowed_query (record { width = at 0 i; rows = (read i).rows }) (at 1 i) (at 2 i) (at 3 i) (at 4 i)
 
 pub understood : (input : List ℕ) (r : Result Order Refusal) → Answers (order_refusal input) (Says input) r → ReadsRightLines input r → IsUnderstood input
 understood input (Err e) h lines n least most first count rows asked =
@@ -85,7 +85,7 @@ both_none : (one other : Option Refusal) → option_or one other ≡ None → (o
 both_none (Some refusal) other e = absurd (none-some refusal (sym e))
 both_none None other e = (refl, e)
 
-not_above : (low high n column : ℕ) → range_due low high n column ≡ None → n ≤ high
+not_above : (low high n column : ℕ) → bounds_refusal low high n column ≡ None → n ≤ high
 not_above low high n column = by (leb low n) (leb n high) refl
   where
     by : (s t : Bool) → leb n high ≡ t → due_if (not (s && t)) (placed_at_two Range 0 column) ≡ None → n ≤ high
@@ -101,15 +101,15 @@ told n least most first count none =
     let b : ℕ = a + length (decimal least) + 1 in
     let c : ℕ = b + length (decimal most) + 1 in
     let d : ℕ = c + length (decimal first) + 1 in
-    let fifth = option_or (range_due 0 most_charges count d) None in
-    let fourth = option_or (range_due 1 most_charges first c) fifth in
-    let third = option_or (range_due 0 most_marks most b) fourth in
-    let second = option_or (range_due 1 most_charges least a) third in
-    let from_second = both_none (range_due 1 most_marks n 1) second none in
-    let from_third = both_none (range_due 1 most_charges least a) third from_second.1 in
-    let at_third = both_none (range_due 0 most_marks most b) fourth from_third.1 in
-    let from_fifth = both_none (range_due 1 most_charges first c) fifth at_third.1 in
-    let at_fifth = both_none (range_due 0 most_charges count d) None from_fifth.1 in
+    let fifth = option_or (bounds_refusal 0 most_charges count d) None in
+    let fourth = option_or (bounds_refusal 1 most_charges first c) fifth in
+    let third = option_or (bounds_refusal 0 most_marks most b) fourth in
+    let second = option_or (bounds_refusal 1 most_charges least a) third in
+    let from_second = both_none (bounds_refusal 1 most_marks n 1) second none in
+    let from_third = both_none (bounds_refusal 1 most_charges least a) third from_second.1 in
+    let at_third = both_none (bounds_refusal 0 most_marks most b) fourth from_third.1 in
+    let from_fifth = both_none (bounds_refusal 1 most_charges first c) fifth at_third.1 in
+    let at_fifth = both_none (bounds_refusal 0 most_charges count d) None from_fifth.1 in
     (not_above 0 most_marks most b at_third.0, not_above 0 most_charges count d at_fifth.0)
 
 pub faulty : (input : List ℕ) (refusal : Refusal) → input_refusal input ≡ Some refusal → AsksUnlessFaulty input

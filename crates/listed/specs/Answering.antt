@@ -7,7 +7,7 @@ use Rattle.found.specs.Lines.{line_text, fault_text, end_text}
 use Rattle.closed.specs.Closed.{Query}
 use Rattle.finder.specs.Found.{how_many, records}
 use Rattle.finder.specs.Runs.{nodes_of}
-use Rattle.listed.specs.Asking.{input_refusal, query_of, query_in, IsAsked, AsksUnlessFaulty}
+use Rattle.listed.specs.Asking.{input_refusal, windowed_query, query_in, IsAsked, AsksUnlessFaulty}
 
 -- the line of a record: the marks of its set, and its support
 abbrev pub record_text : Record → List ℕ
@@ -29,5 +29,5 @@ answer_text input = fault_or_list (input_refusal input) (query_in input)
 -- Whatever an input asks for is listed, and what asks for nothing has a fault.
 pub record AnswersAsked (input text : List ℕ) : Type 0 where
   pub lists : (n least most first count : ℕ) (rows : List ℕ) → IsAsked n least most first count rows input
-      → text ≡ list_text (query_of (record { width = n; rows = rows }) least most first count)
+      → text ≡ list_text (windowed_query (record { width = n; rows = rows }) least most first count)
   pub faults : AsksUnlessFaulty input

@@ -47,8 +47,8 @@ input_refusal input =
     ∷ [])
 
 -- the list of sets of at most so many marks, with this least support, in the window of so many charges from a first one on
-abbrev pub query_of : Meaning → ℕ → ℕ → ℕ → ℕ → Query
-query_of charges least most first count = query (windowed first count charges) (small most) least
+abbrev pub windowed_query : Meaning → ℕ → ℕ → ℕ → ℕ → Query
+windowed_query charges least most first count = query (windowed first count charges) (small most) least
 
 -- the charges of an input
 abbrev pub charges_in : List ℕ → Meaning
@@ -56,7 +56,7 @@ charges_in input = record { width = number_in input 0; rows = rows_in input }
 
 -- the list that an input asks for
 abbrev pub query_in : List ℕ → Query
-query_in input = query_of (charges_in input) (number_in input 1) (number_in input 2) (number_in input 3) (number_in input 4)
+query_in input = windowed_query (charges_in input) (number_in input 1) (number_in input 2) (number_in input 3) (number_in input 4)
 
 -- the order and the count of charges are those of the input
 abbrev pub Asks : List ℕ → Asked → Type 0
@@ -77,7 +77,7 @@ pub record IsAsked (n least most first count : ℕ) (rows input : List ℕ) : Ty
 -- whatever an input asks for is what is understood
 abbrev pub IsUnderstood : List ℕ → Type 0
 IsUnderstood input = (n least most first count : ℕ) (rows : List ℕ) → IsAsked n least most first count rows input
-    → (input_refusal input ≡ None) × (query_in input ≡ query_of (record { width = n; rows = rows }) least most first count)
+    → (input_refusal input ≡ None) × (query_in input ≡ windowed_query (record { width = n; rows = rows }) least most first count)
 
 -- what has no fault asks for something
 abbrev pub AsksUnlessFaulty : List ℕ → Type 0

@@ -3,7 +3,7 @@ ghost use Rattle.std.specs.Prelude.{◌≡◌, IfOk};
 ghost use Rattle.marks.specs.Refusals.{number_of};
 ghost use Rattle.found.specs.Lines.{fault_text};
 ghost use Rattle.tables.specs.Packed.{packed_meaning};
-ghost use Rattle.listed.specs.Asking.{query_of};
+ghost use Rattle.listed.specs.Asking.{windowed_query};
 ghost use Rattle.listed.specs.Answering.{answer_text, list_text, AnswersAsked};
 
 use crate::asking::{read, sheet_memory};
@@ -26,7 +26,7 @@ fn fault(alloc: Global, refusal: Refusal) -> Result<Vec<u8>, AllocError>
 
 // The lines of the list that an order asks for of charges.
 fn list(alloc: Global, order: Order, charges: &Packed<'_>) -> Result<Vec<u8>, AllocError>
-    ensures { IfOk result (λ text. text.items ≡ list_text (query_of (packed_meaning charges.now.width.number charges.now.rows.now) order.support.number order.size order.first.number order.count)) }
+    ensures { IfOk result (λ text. text.items ≡ list_text (windowed_query (packed_meaning charges.now.width.number charges.now.rows.now) order.support.number order.size order.first.number order.count)) }
 {
     let window = Window::new(*charges, order.first, order.count);
     let list = whole_list(alloc, &window, &Size::new(order.size), order.support)?;

@@ -1,4 +1,6 @@
 pub mod Numbers
+pub mod Bytes
+pub mod Memory
 pub mod Orders
 pub mod Places
 pub mod Refusals

@@ -10,6 +10,7 @@ use Rattle.marks.specs.Refusals.{unplaced, due_if}
 use Rattle.tables.specs.Meaning.{Meaning, Proper}
 use Rattle.found.specs.declared.record.Record.{Record}
 use Rattle.found.specs.Records.{record_bytes, record_length, no_record}
+use Rattle.found.proofs.Laying.{record_size}
 use Rattle.closed.specs.Closed.{Query}
 use Rattle.finder.specs.declared.finder.Finder.{Finder}
 use Rattle.finder.specs.declared.step.Step.{Step}
@@ -22,10 +23,6 @@ use Rattle.panel.specs.Listing.{places, left_over, written_into, listed_into}
 
 -- ---- bytes
 
-record_size : (r : Record) → length (record_bytes r) ≡ record_length
-unfolding record_bytes
-record_size r = refl
-
 records_size : (rs : List Record) → length (flat_map record_bytes rs) ≡ record_length * length rs
 records_size [] = refl
 records_size (r ∷ rs) = length-append (record_bytes r) (flat_map record_bytes rs) ∙ omega (arith, record_size r, records_size rs)
@@ -36,7 +33,7 @@ module _ (rs : List Record) (old : List ℕ) (k : ℕ) (few : k ≤ length rs) w
 
   -- the first k records, and what lies past them
   parts : written_into (take k rs) old ≡ flat_map record_bytes (take k rs) ++ drop (record_length * k) old
-  parts = ap (λ n. flat_map record_bytes (take k rs) ++ drop (record_length * n) old) (length-take-le k rs few)
+  parts = ap (λ n. flat_map record_bytes (take k rs) ++ drop n old) front_size
 
 -- one record more
 module _ (rs : List Record) (old now after : List ℕ) (k : ℕ) (d : Record) (more : k < length rs) (is : now ≡ written_into (take k rs) old) (one : after ≡ record_bytes (get_or rs k d)) where
@@ -109,7 +106,8 @@ module _ {T W : Type 0} (meaning : T → Meaning) (allowed : W → ℕ → Bool)
         pub more_filled : length before ≡ record_length → (memory : List ℕ) → memory ≡ put_mid (record_length * k) record_length now after → Filled q old memory h (k + 1)
         more_filled size memory put =
             let n = next_found meaning allowed q proper f h (take k (records q)) before after standing a_set in
-            let none : drop record_length before ≡ [] = drop_all record_length before (omega (arith, size)) in
+            let none : drop (length (record_bytes (found_at q k))) before ≡ [] =
+            drop_all (length (record_bytes (found_at q k))) before (omega (arith, size, record_size (found_at q k))) in
             let bytes : after ≡ record_bytes (get_or (records q) k no_record) =
             n.3 ∙ ap (λ rest. record_bytes (found_at q k) ++ rest) none ∙ append-nil (record_bytes (found_at q k)) ∙ ap record_bytes (sym (get_or_records q k n.0))
             in

@@ -11,7 +11,7 @@ use Rattle.sheets.specs.Reading.{reading, packed_into}
 use Rattle.finder.specs.Found.{how_many}
 use Rattle.panel.specs.Answers.{result_of, unless_due}
 use Rattle.panel.specs.Reading.{read_result, read_memory}
-use Rattle.panel.specs.Listing.{asked, judged, left_over, list_result, listed_into, list_memory}
+use Rattle.panel.specs.Listing.{packed_query, judged, left_over, list_result, listed_into, list_memory}
 
 -- a call that answers such a count, or the refusal that is due, has this result
 told : (due : Option Refusal) (count : ℕ) (r : Result ℕ Refusal) → Answers due (λ n. n ≡ count) r → r ≡ result_of due count
@@ -67,7 +67,7 @@ module _ (bytes : List ℕ) (n θ most : ℕ) where
 
   -- what is asked of the table that stands over the bytes
   pub is_asked : (m : Meaning) (w most_is θ_is : ℕ) → m ≡ record { width = w; rows = packed_rows bytes } → w ≡ n → most_is ≡ most → θ_is ≡ θ
-      → query m (small most_is) θ_is ≡ asked bytes n θ most
+      → query m (small most_is) θ_is ≡ packed_query bytes n θ most
   is_asked m w most_is θ_is means is_width limited least =
       ap (λ (x : Meaning). query x (small most_is) θ_is) means
       ∙ (λ i. query (record { width = is_width i; rows = packed_rows bytes }) (small (limited i)) (least i))
@@ -76,21 +76,21 @@ module _ (bytes : List ℕ) (n θ most : ℕ) where
     pub list_refused : (room : ℕ) → Err refusal ≡ list_result bytes n θ most room
     unfolding list_result
     list_refused room =
-        ap (λ (d : Option Refusal). result_of (first_due (d ∷ left_over (asked bytes n θ most) room ∷ [])) (how_many (asked bytes n θ most))) (sym off)
+        ap (λ (d : Option Refusal). result_of (first_due (d ∷ left_over (packed_query bytes n θ most) room ∷ [])) (how_many (packed_query bytes n θ most))) (sym off)
 
     pub list_kept : (memory : List ℕ) → memory ≡ list_memory bytes n θ most memory
     unfolding list_memory
-    list_kept memory = ap (λ (d : Option Refusal). unless_due d (listed_into (asked bytes n θ most) memory) memory) (sym off)
+    list_kept memory = ap (λ (d : Option Refusal). unless_due d (listed_into (packed_query bytes n θ most) memory) memory) (sym off)
 
   module _ (on : judged bytes n θ ≡ None) where
-    pub list_told : (room : ℕ) (r : Result ℕ Refusal) → Answers (left_over (asked bytes n θ most) room) (λ count. count ≡ how_many (asked bytes n θ most)) r
+    pub list_told : (room : ℕ) (r : Result ℕ Refusal) → Answers (left_over (packed_query bytes n θ most) room) (λ count. count ≡ how_many (packed_query bytes n θ most)) r
         → r ≡ list_result bytes n θ most room
     unfolding list_result
     list_told room r h =
-        told (left_over (asked bytes n θ most) room) (how_many (asked bytes n θ most)) r h
-        ∙ alone (left_over (asked bytes n θ most) room) (how_many (asked bytes n θ most))
-        ∙ ap (λ (d : Option Refusal). result_of (first_due (d ∷ left_over (asked bytes n θ most) room ∷ [])) (how_many (asked bytes n θ most))) (sym on)
+        told (left_over (packed_query bytes n θ most) room) (how_many (packed_query bytes n θ most)) r h
+        ∙ alone (left_over (packed_query bytes n θ most) room) (how_many (packed_query bytes n θ most))
+        ∙ ap (λ (d : Option Refusal). result_of (first_due (d ∷ left_over (packed_query bytes n θ most) room ∷ [])) (how_many (packed_query bytes n θ most))) (sym on)
 
-    pub list_written : (memory : List ℕ) → listed_into (asked bytes n θ most) memory ≡ list_memory bytes n θ most memory
+    pub list_written : (memory : List ℕ) → listed_into (packed_query bytes n θ most) memory ≡ list_memory bytes n θ most memory
     unfolding list_memory
-    list_written memory = ap (λ (d : Option Refusal). unless_due d (listed_into (asked bytes n θ most) memory) memory) (sym on)
+    list_written memory = ap (λ (d : Option Refusal). unless_due d (listed_into (packed_query bytes n θ most) memory) memory) (sym on)

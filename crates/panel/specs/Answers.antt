@@ -4,13 +4,13 @@ use Rattle.marks.specs.declared.refusal.Refusal.{Refusal}
 use Rattle.marks.specs.Refusals.{number_of}
 
 -- a refusal is told as this plus its number
-abbrev pub refused : ℕ
-refused = 2 ^ 40
+abbrev pub refusal_base : ℕ
+refusal_base = 2 ^ 40
 
 -- the number that tells a count or a refusal
 abbrev pub panel_answer : Result ℕ Refusal → ℕ
 panel_answer (Ok count) = count
-panel_answer (Err refusal) = refused + number_of refusal.reason
+panel_answer (Err refusal) = refusal_base + number_of refusal.reason
 
 -- the refusal that is due, or, where none is, the count
 abbrev pub result_of : Option Refusal → ℕ → Result ℕ Refusal

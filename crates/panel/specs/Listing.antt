@@ -1,7 +1,8 @@
 -- Listing for the panel.
-use Rattle.std.specs.Prelude.{ℕ, ◌*◌, ◌/◌, List, [], ◌∷◌, ◌++◌, length, take, drop, flat_map, Option, Result, nat_lt}
+use Rattle.std.specs.Prelude.{ℕ, ◌*◌, ◌/◌, List, [], ◌∷◌, length, take, flat_map, Option, Result, nat_lt}
 use Rattle.marks.specs.declared.refusal.Reason.TheVariants.{NoPlace}
 use Rattle.marks.specs.declared.refusal.Refusal.{Refusal}
+use Rattle.marks.specs.Memory.{put_in_front}
 use Rattle.marks.specs.Numbers.{most_marks, most_charges}
 use Rattle.marks.specs.Refusals.{unplaced, due_if, first_due, range_refusal}
 use Rattle.tables.specs.Packed.{packed_rows, packed_refusal}
@@ -12,9 +13,9 @@ use Rattle.closed.specs.Closed.{Query, query}
 use Rattle.finder.specs.Found.{how_many, records}
 use Rattle.panel.specs.Answers.{result_of, unless_due}
 
--- what is asked for: the list of the packed bytes as a table of the width n, with the least support θ, of sets of at most so many marks
-abbrev pub asked : List ℕ → ℕ → ℕ → ℕ → Query
-asked bytes n θ most = query (record { width = n; rows = packed_rows bytes }) (small most) θ
+-- the list of the packed bytes as a table of the width n, with the least support θ, of sets of at most so many marks
+abbrev pub packed_query : List ℕ → ℕ → ℕ → ℕ → Query
+packed_query bytes n θ most = query (record { width = n; rows = packed_rows bytes }) (small most) θ
 
 -- what is judged before anything is written
 abbrev pub judged : List ℕ → ℕ → ℕ → Option Refusal
@@ -31,11 +32,11 @@ left_over q room = due_if (nat_lt (places room) (how_many q)) (unplaced NoPlace)
 -- the refusal, or how many records the list has, which are then all written
 unfoldable pub list_result : List ℕ → ℕ → ℕ → ℕ → ℕ → Result ℕ Refusal
 list_result bytes n θ most room =
-    result_of (first_due (judged bytes n θ ∷ left_over (asked bytes n θ most) room ∷ [])) (how_many (asked bytes n θ most))
+    result_of (first_due (judged bytes n θ ∷ left_over (packed_query bytes n θ most) room ∷ [])) (how_many (packed_query bytes n θ most))
 
 -- what memory holds once these records are written into it, one after another
 abbrev pub written_into : List Record → List ℕ → List ℕ
-written_into rs memory = flat_map record_bytes rs ++ drop (record_length * length rs) memory
+written_into rs memory = put_in_front (flat_map record_bytes rs) memory
 
 -- the list is written into memory, or as many of its records as have place
 abbrev pub listed_into : Query → List ℕ → List ℕ
@@ -43,4 +44,4 @@ listed_into q memory = written_into (take (places (length memory)) (records q)) 
 
 -- What memory then holds: the records that have place, and past them what it held; and all of that where something is refused before.
 unfoldable pub list_memory : List ℕ → ℕ → ℕ → ℕ → List ℕ → List ℕ
-list_memory bytes n θ most memory = unless_due (judged bytes n θ) (listed_into (asked bytes n θ most) memory) memory
+list_memory bytes n θ most memory = unless_due (judged bytes n θ) (listed_into (packed_query bytes n θ most) memory) memory

@@ -17,7 +17,7 @@ use Rattle.sheets.specs.Accepting.{IsSheet}
 use Rattle.sheets.specs.Cutting.{Part, Digits, Gap, Break, Odd, blank, line_end, part_of_byte, led_by, part_bytes, parts_of}
 use Rattle.sheets.specs.Knowing.{IsSound}
 use Rattle.sheets.specs.Reading.{text_of, worth, open_row, rows_of, left_number, at_line_start, after_blank, breaks, fault_after, is_bad_number, is_bad_blank, number_fault, charge_fault, Reading, unless_fault, reading_on, text_reading, reading}
-use Rattle.sheets.specs.Rendering.{marks_of, marks_text, line_text, render, most_bytes}
+use Rattle.sheets.specs.Rendering.{marks_of, spaced_marks, row_text, render, most_bytes}
 use Rattle.sheets.proofs.Numbers.{own}
 use Rattle.sheets.proofs.Rising.{added, marks_added, marks_none}
 use Rattle.sheets.proofs.Steps.{AllSound, sound}
@@ -109,7 +109,7 @@ abbrev gap : List Part → List ℕ
 gap passed = cond (after_blank passed) (blank ∷ []) []
 
 record Well (n room : ℕ) (passed : List Part) : Type 0 where
-  text : text_of passed ≡ render (rows_of passed) ++ (marks_text (marks_of (open_row passed)) ++ gap passed)
+  text : text_of passed ≡ render (rows_of passed) ++ (spaced_marks (marks_of (open_row passed)) ++ gap passed)
   within : (k : ℕ) → get_or (rows_of passed) k 0 < 2 ^ n
   few : length (rows_of passed) ≤ most_charges
   fits : row_bytes * length (rows_of passed) ≤ room
@@ -131,7 +131,7 @@ starts (Break ∷ passed) e = (refl, refl)
 starts (Odd b ∷ passed) e = absurd (false≢true e)
 
 -- a mark more behind others
-text_more : (xs : List ℕ) (x : ℕ) → 0 < length xs → marks_text (xs ++ x ∷ []) ≡ marks_text xs ++ blank ∷ decimal x
+text_more : (xs : List ℕ) (x : ℕ) → 0 < length xs → spaced_marks (xs ++ x ∷ []) ≡ spaced_marks xs ++ blank ∷ decimal x
 text_more [] x h = absurd (omega arith)
 text_more (y ∷ ys) x h =
     ap (λ l. decimal y ++ l) (flat_map-append (λ (z : ℕ). 32 ∷ decimal z) ys (x ∷ []) ∙ ap (λ l. flat_map (λ (z : ℕ). 32 ∷ decimal z) ys ++ l) (append-nil (32 ∷ decimal x)))
@@ -148,9 +148,9 @@ within_more n rows row within h k = by (cases_lt k (length rows)) (cases_eq (len
 module _ (n room : ℕ) (narrow : n ≤ 32) (passed : List Part) (w : Well n room passed) where
   well_blank : at_line_start passed ≡ false → after_blank passed ≡ false → Well n room (Gap ∷ passed)
   well_blank start none = record {
-    text = (λ i. w.text i ++ 32 ∷ []) ∙ append_assoc (render (rows_of passed)) (marks_text (marks_of (open_row passed)) ++ gap passed) (32 ∷ [])
-        ∙ ap (λ l. render (rows_of passed) ++ l) (append_assoc (marks_text (marks_of (open_row passed))) (gap passed) (32 ∷ [])
-        ∙ ap (λ t. marks_text (marks_of (open_row passed)) ++ (cond t (blank ∷ []) [] ++ 32 ∷ [])) none);
+    text = (λ i. w.text i ++ 32 ∷ []) ∙ append_assoc (render (rows_of passed)) (spaced_marks (marks_of (open_row passed)) ++ gap passed) (32 ∷ [])
+        ∙ ap (λ l. render (rows_of passed) ++ l) (append_assoc (spaced_marks (marks_of (open_row passed))) (gap passed) (32 ∷ [])
+        ∙ ap (λ t. spaced_marks (marks_of (open_row passed)) ++ (cond t (blank ∷ []) [] ++ 32 ∷ [])) none);
     within = w.within;
     few = w.few;
     fits = w.fits;
@@ -163,15 +163,15 @@ module _ (n room : ℕ) (narrow : n ≤ 32) (passed : List Part) (w : Well n roo
   well_break none few fits =
       let rows = rows_of passed in
       let row = open_row passed in
-      let marks = marks_text (marks_of row) in
+      let marks = spaced_marks (marks_of row) in
       let size : length (rows ++ row ∷ []) ≡ length rows + 1 = length-append rows (row ∷ []) ∙ (omega arith) in
-      let left : text_of passed ++ 10 ∷ [] ≡ render rows ++ line_text row =
+      let left : text_of passed ++ 10 ∷ [] ≡ render rows ++ row_text row =
       (λ i. w.text i ++ 10 ∷ []) ∙ append_assoc (render rows) (marks ++ gap passed) (10 ∷ [])
       ∙ ap (λ l. render rows ++ l) (ap (λ t. (marks ++ cond t (blank ∷ []) []) ++ 10 ∷ []) none ∙ ap (λ l. l ++ 10 ∷ []) (append-nil marks))
       in
-      let right : render (rows ++ row ∷ []) ≡ render rows ++ line_text row = flat_map-append line_text rows (row ∷ []) ∙ ap (λ l. render rows ++ l) (append-nil (line_text row)) in
-      let end : render (rows ++ row ∷ []) ++ (marks_text (marks_of 0) ++ []) ≡ render (rows ++ row ∷ []) =
-      ap (λ l. render (rows ++ row ∷ []) ++ (marks_text l ++ [])) marks_none ∙ append-nil (render (rows ++ row ∷ []))
+      let right : render (rows ++ row ∷ []) ≡ render rows ++ row_text row = flat_map-append row_text rows (row ∷ []) ∙ ap (λ l. render rows ++ l) (append-nil (row_text row)) in
+      let end : render (rows ++ row ∷ []) ++ (spaced_marks (marks_of 0) ++ []) ≡ render (rows ++ row ∷ []) =
+      ap (λ l. render (rows ++ row ∷ []) ++ (spaced_marks l ++ [])) marks_none ∙ append-nil (render (rows ++ row ∷ []))
       in
       record {
         text = left ∙ sym right ∙ sym end;
@@ -197,17 +197,17 @@ module _ (n room : ℕ) (narrow : n ≤ 32) (passed : List Part) (w : Well n roo
         marks_added (open_row passed) (worth ds - 1) (omega arith) row_below ∙ ap (λ y. marks_of (open_row passed) ++ y ∷ []) back
 
     number_text : (s t : Bool) → at_line_start passed ≡ s → after_blank passed ≡ t
-        → text_of passed ++ ds ≡ render (rows_of passed) ++ marks_text (marks_of (open_row passed) ++ worth ds ∷ [])
+        → text_of passed ++ ds ≡ render (rows_of passed) ++ spaced_marks (marks_of (open_row passed) ++ worth ds ∷ [])
     number_text true t e f =
         let z = starts passed e in
         let none : marks_of (open_row passed) ≡ [] = ap marks_of z.0 ∙ marks_none in
-        let before : text_of passed ≡ render (rows_of passed) = w.text ∙ (λ i. render (rows_of passed) ++ (marks_text (none i) ++ cond (z.1 i) (blank ∷ []) [])) ∙ append-nil (render (rows_of passed)) in
-        let one : marks_text (marks_of (open_row passed) ++ worth ds ∷ []) ≡ ds = ap (λ l. marks_text (l ++ worth ds ∷ [])) none ∙ append-nil (decimal (worth ds)) ∙ plain in
+        let before : text_of passed ≡ render (rows_of passed) = w.text ∙ (λ i. render (rows_of passed) ++ (spaced_marks (none i) ++ cond (z.1 i) (blank ∷ []) [])) ∙ append-nil (render (rows_of passed)) in
+        let one : spaced_marks (marks_of (open_row passed) ++ worth ds ∷ []) ≡ ds = ap (λ l. spaced_marks (l ++ worth ds ∷ [])) none ∙ append-nil (decimal (worth ds)) ∙ plain in
         (λ i. before i ++ sym one i)
     number_text false true e f =
-        let marks = marks_text (marks_of (open_row passed)) in
+        let marks = spaced_marks (marks_of (open_row passed)) in
         let before : text_of passed ≡ render (rows_of passed) ++ (marks ++ 32 ∷ []) = w.text ∙ ap (λ t. render (rows_of passed) ++ (marks ++ cond t (blank ∷ []) [])) f in
-        let more : marks_text (marks_of (open_row passed) ++ worth ds ∷ []) ≡ marks ++ 32 ∷ ds = text_more (marks_of (open_row passed)) (worth ds) (w.some e) ∙ ap (λ l. marks ++ 32 ∷ l) plain in
+        let more : spaced_marks (marks_of (open_row passed) ++ worth ds ∷ []) ≡ marks ++ 32 ∷ ds = text_more (marks_of (open_row passed)) (worth ds) (w.some e) ∙ ap (λ l. marks ++ 32 ∷ l) plain in
         (λ i. before i ++ ds) ∙ append_assoc (render (rows_of passed)) (marks ++ 32 ∷ []) ds ∙ ap (λ l. render (rows_of passed) ++ l) (append_assoc marks (32 ∷ []) ds ∙ sym more)
     number_text false false e f = absurd (joined e f)
 
@@ -218,7 +218,7 @@ module _ (n room : ℕ) (narrow : n ≤ 32) (passed : List Part) (w : Well n roo
         let small : open_row (Digits ds ∷ passed) < 2 ^ suc (worth ds - 1) = omega (arith, row_below) in
         record {
           text = number_text (at_line_start passed) (after_blank passed) refl refl
-              ∙ ap (λ l. render (rows_of passed) ++ l) (ap marks_text (sym marks_more) ∙ sym (append-nil (marks_text (marks_of (open_row (Digits ds ∷ passed))))));
+              ∙ ap (λ l. render (rows_of passed) ++ l) (ap spaced_marks (sym marks_more) ∙ sym (append-nil (spaced_marks (marks_of (open_row (Digits ds ∷ passed))))));
           within = w.within;
           few = w.few;
           fits = w.fits;
@@ -254,7 +254,7 @@ module _ (n room : ℕ) (narrow : n ≤ 32) where
   go [] passed w sounds parted j e =
       let z = starts passed (not-false (at_line_start passed) (none_due (not (at_line_start passed)) (fault_after passed NoLineEnd) e)) in
       let none : marks_of (open_row passed) ≡ [] = ap marks_of z.0 ∙ marks_none in (
-        append-nil (text_of passed) ∙ w.text ∙ (λ i. render (rows_of passed) ++ (marks_text (none i) ++ cond (z.1 i) (blank ∷ []) [])) ∙ append-nil (render (rows_of passed)),
+        append-nil (text_of passed) ∙ w.text ∙ (λ i. render (rows_of passed) ++ (spaced_marks (none i) ++ cond (z.1 i) (blank ∷ []) [])) ∙ append-nil (render (rows_of passed)),
         w.within,
         w.few,
         w.fits,
@@ -284,7 +284,7 @@ module _ (n room : ℕ) (narrow : n ≤ 32) where
 
 well_none : (n room : ℕ) → Well n room []
 well_none n room = record {
-  text = sym (ap (λ l. marks_text l ++ []) marks_none);
+  text = sym (ap (λ l. spaced_marks l ++ []) marks_none);
   within = λ k. pow_pos n;
   few = omega arith;
   fits = omega arith;

@@ -4,13 +4,13 @@ use Rattle.std.proofs.lemmas.Fmt.{length-decimal-le, decimal_nonempty}
 use Rattle.std.proofs.lemmas.List.{length-append, length-drop, length-take, take_at, take_more, take-append-drop}
 use Rattle.std.proofs.lemmas.List.Concat.{flat_map-append}
 use Rattle.std.proofs.lemmas.Slice.{drop-append-drop}
+use Rattle.marks.specs.Memory.{put_in_front}
 use Rattle.marks.specs.Numbers.{most_marks, bit_of}
 use Rattle.marks.specs.Sets.{has, bits_below}
 use Rattle.marks.proofs.Enumerated.{bits_start, bits_more}
 use Rattle.tables.specs.Holding.{ending_after}
 use Rattle.tables.specs.Meaning.{Meaning, Proper, count_of, row_of}
-use Rattle.sheets.specs.Rendering.{marks_of, marks_text, line_text, render}
-use Rattle.sheets.specs.Written.{put_in_front}
+use Rattle.sheets.specs.Rendering.{marks_of, spaced_marks, row_text, render}
 
 -- ---- the marks of a row
 
@@ -22,11 +22,11 @@ blanks_before : (bits : List ℕ) → flat_map (λ mark. codes " " ++ decimal ma
 blanks_before [] = refl
 blanks_before (b ∷ bits) = ap (λ (l : List ℕ). word b ++ l) (blanks_before bits)
 
-pub marks_none : (row : ℕ) → bits_below most_marks row ≡ [] → marks_text (marks_of row) ≡ []
-marks_none row e = ap (λ bits. marks_text (map (λ b. b + 1) bits)) e
+pub marks_none : (row : ℕ) → bits_below most_marks row ≡ [] → spaced_marks (marks_of row) ≡ []
+marks_none row e = ap (λ bits. spaced_marks (map (λ b. b + 1) bits)) e
 
-pub marks_some : (row b : ℕ) (bits : List ℕ) → bits_below most_marks row ≡ b ∷ bits → marks_text (marks_of row) ≡ decimal (b + 1) ++ flat_map word bits
-marks_some row b bits e = ap (λ bits. marks_text (map (λ b. b + 1) bits)) e ∙ ap (λ (l : List ℕ). decimal (b + 1) ++ l) (blanks_before bits)
+pub marks_some : (row b : ℕ) (bits : List ℕ) → bits_below most_marks row ≡ b ∷ bits → spaced_marks (marks_of row) ≡ decimal (b + 1) ++ flat_map word bits
+marks_some row b bits e = ap (λ bits. spaced_marks (map (λ b. b + 1) bits)) e ∙ ap (λ (l : List ℕ). decimal (b + 1) ++ l) (blanks_before bits)
 
 -- each mark takes at most three bytes
 words_short : (row n : ℕ) → n ≤ 99 → length (flat_map word (bits_below n row)) ≤ 3 * n
@@ -47,10 +47,10 @@ words_short row (suc n) h =
     by true = omega (arith, length-append (word n) [], length-append (codes " ") (decimal (n + 1)), length-decimal-le 2 (n + 1) (omega arith) (omega arith) (omega arith))
     by false = omega arith
 
-pub marks_short : (row : ℕ) → length (marks_text (marks_of row)) ≤ 95
+pub marks_short : (row : ℕ) → length (spaced_marks (marks_of row)) ≤ 95
 marks_short row = by (bits_below most_marks row) refl
   where
-    by : (bits : List ℕ) → bits_below most_marks row ≡ bits → length (marks_text (marks_of row)) ≤ 95
+    by : (bits : List ℕ) → bits_below most_marks row ≡ bits → length (spaced_marks (marks_of row)) ≤ 95
     by [] e = omega (arith, ap length (marks_none row e))
     by (b ∷ bits) e =
         omega (
@@ -65,10 +65,10 @@ marks_short row = by (bits_below most_marks row) refl
 
 -- what was written, and the words of the marks that are left, are the text of all marks of the row
 pub record Partly (row left : ℕ) (written : List ℕ) : Type 0 where
-  pub whole : written ++ flat_map word (bits_below most_marks left) ≡ marks_text (marks_of row)
+  pub whole : written ++ flat_map word (bits_below most_marks left) ≡ spaced_marks (marks_of row)
   pub short : length written ≤ 95
 
-partly : (row left : ℕ) (written : List ℕ) → written ++ flat_map word (bits_below most_marks left) ≡ marks_text (marks_of row) → Partly row left written
+partly : (row left : ℕ) (written : List ℕ) → written ++ flat_map word (bits_below most_marks left) ≡ spaced_marks (marks_of row) → Partly row left written
 partly row left written e =
     record { whole = e; short = omega (arith, ap length e, length-append written (flat_map word (bits_below most_marks left)), marks_short row) }
 
@@ -92,29 +92,29 @@ pub next_room : {row left n : ℕ} {written : List ℕ} (rest : ℕ) → 0 < n �
 next_room {n = n} {written = written} rest some small p e =
     omega (arith, (next_mark some p e).short, length-append (written ++ codes " ") (decimal n), length-append written (codes " "), decimal_nonempty n (omega arith))
 
-pub last_mark : {row left : ℕ} {written : List ℕ} → Partly row left written → bits_below most_marks left ≡ [] → written ≡ marks_text (marks_of row)
+pub last_mark : {row left : ℕ} {written : List ℕ} → Partly row left written → bits_below most_marks left ≡ [] → written ≡ spaced_marks (marks_of row)
 last_mark {row = row} {left = left} {written = written} p e = sym (append-nil written) ∙ ap (λ bits. written ++ flat_map word bits) (sym e) ∙ p.whole
 
 -- ---- the lines of rows
 
-pub line_short : (row : ℕ) → length (line_text row) ≤ 96
-line_short row = omega (arith, length-append (marks_text (marks_of row)) (codes "\n"), marks_short row)
+pub line_short : (row : ℕ) → length (row_text row) ≤ 96
+line_short row = omega (arith, length-append (spaced_marks (marks_of row)) (codes "\n"), marks_short row)
 
 pub render_short : (rows : List ℕ) → length (render rows) ≤ 96 * length rows
 render_short [] = omega arith
-render_short (row ∷ rows) = omega (arith, length-append (line_text row) (render rows), line_short row, render_short rows)
+render_short (row ∷ rows) = omega (arith, length-append (row_text row) (render rows), line_short row, render_short rows)
 
-pub render_more : (rows : List ℕ) (k : ℕ) → k < length rows → render (take (k + 1) rows) ≡ render (take k rows) ++ line_text (get_or rows k 0)
+pub render_more : (rows : List ℕ) (k : ℕ) → k < length rows → render (take (k + 1) rows) ≡ render (take k rows) ++ row_text (get_or rows k 0)
 render_more rows k h =
-    ap render (take_more rows k 0 h) ∙ flat_map-append line_text (take k rows) (get_or rows k 0 ∷ [])
-    ∙ ap (λ (l : List ℕ). render (take k rows) ++ l) (append-nil (line_text (get_or rows k 0)))
+    ap render (take_more rows k 0 h) ∙ flat_map-append row_text (take k rows) (get_or rows k 0 ∷ [])
+    ∙ ap (λ (l : List ℕ). render (take k rows) ++ l) (append-nil (row_text (get_or rows k 0)))
 
 pub render_part : (rows : List ℕ) (k : ℕ) → length (render (take k rows)) ≤ length (render rows)
 render_part rows k =
     omega (
       arith,
       ap (λ (l : List ℕ). length (render l)) (take-append-drop k rows),
-      ap length (flat_map-append line_text (take k rows) (drop k rows)),
+      ap length (flat_map-append row_text (take k rows) (drop k rows)),
       length-append (render (take k rows)) (render (drop k rows)),
     )
 
@@ -136,15 +136,15 @@ in_front_more text more old =
 -- ---- in a pass over a table
 
 module _ (m : Meaning) where
-  pub size_more : (k : ℕ) → k < count_of m → length (render (ending_after k m).rows) + length (line_text (get_or m.rows k 0)) ≡ length (render (ending_after (k + 1) m).rows)
-  size_more k h = sym (ap length (render_more m.rows k h) ∙ length-append (render (take k m.rows)) (line_text (get_or m.rows k 0)))
+  pub size_more : (k : ℕ) → k < count_of m → length (render (ending_after k m).rows) + length (row_text (get_or m.rows k 0)) ≡ length (render (ending_after (k + 1) m).rows)
+  size_more k h = sym (ap length (render_more m.rows k h) ∙ length-append (render (take k m.rows)) (row_text (get_or m.rows k 0)))
 
   pub some_short : (k : ℕ) → Proper m → length (render (ending_after k m).rows) ≤ 6291456
   some_short k proper = omega (arith, render_short (take k m.rows), length-take k m.rows, proper.few)
 
 -- a line more behind those that stand in front, and where it ends
 abbrev pub line_put : ℕ → List ℕ × ℕ → List ℕ × ℕ
-line_put row written = (take written.1 written.0 ++ (line_text row ++ drop (written.1 + length (line_text row)) written.0), written.1 + length (line_text row))
+line_put row written = (take written.1 written.0 ++ (row_text row ++ drop (written.1 + length (row_text row)) written.0), written.1 + length (row_text row))
 
 module _ (old : List ℕ) where
   -- the lines of a table in front of memory, and where they end
@@ -153,21 +153,21 @@ module _ (old : List ℕ) where
 
   pub lines_more : (m : Meaning) (k : ℕ) → k < count_of m → line_put (get_or m.rows k 0) (lines_in (ending_after k m)) ≡ lines_in (ending_after (k + 1) m)
   lines_more m k h =
-      let text : put_in_front (render (take k m.rows) ++ line_text (get_or m.rows k 0)) old ≡ put_in_front (render (take (k + 1) m.rows)) old =
+      let text : put_in_front (render (take k m.rows) ++ row_text (get_or m.rows k 0)) old ≡ put_in_front (render (take (k + 1) m.rows)) old =
       ap (λ text. put_in_front text old) (sym (render_more m.rows k h))
       in
-      (λ i. ((in_front_more (render (take k m.rows)) (line_text (get_or m.rows k 0)) old ∙ text) i, size_more m k h i))
+      (λ i. ((in_front_more (render (take k m.rows)) (row_text (get_or m.rows k 0)) old ∙ text) i, size_more m k h i))
 
   -- there is room for the next line
   pub lines_room : (m : Meaning) → length (render m.rows) ≤ length old → (k charge : ℕ) → charge ≡ k + 1 → k < count_of m → (written : List ℕ × ℕ) → written ≡ lines_in (ending_after k m)
-      → written.1 + length (line_text (row_of m charge)) ≤ length written.0
+      → written.1 + length (row_text (row_of m charge)) ≤ length written.0
   lines_room m room k charge next here written e =
       let place : charge - 1 ≡ k = omega arith in
       omega (
         arith,
         ap (λ (w : List ℕ × ℕ). w.1) e,
         ap (λ (w : List ℕ × ℕ). length w.0) e,
-        ap (λ j. length (line_text (get_or m.rows j 0))) place,
+        ap (λ j. length (row_text (get_or m.rows j 0))) place,
         size_more m k here,
         render_part m.rows (k + 1),
         render_part m.rows k,

@@ -13,7 +13,7 @@ use Rattle.tables.specs.Packed.{row_bytes}
 use Rattle.sheets.specs.Accepting.{IsSheet}
 use Rattle.sheets.specs.Cutting.{Part, Digits, Gap, Break, led_by, parts_of}
 use Rattle.sheets.specs.Reading.{worth, open_row, rows_of, left_number, at_line_start, after_blank, fault_after, number_fault, charge_fault, part_fault, unless_fault, reading_on, reading}
-use Rattle.sheets.specs.Rendering.{marks_of, marks_text, render, most_bytes}
+use Rattle.sheets.specs.Rendering.{marks_of, spaced_marks, render, most_bytes}
 use Rattle.sheets.proofs.Numbers.{own, good_number}
 use Rattle.sheets.proofs.Rising.{Rises, rises_le, marks_rise, gathered, regathered}
 use Rattle.sheets.proofs.Runs.{alone}
@@ -52,7 +52,7 @@ cut_tail high (y ∷ ys) x rest low r =
     ∙ cut_digits (decimal x) (decimal y ++ (more ++ 10 ∷ rest)) 32 (digits_decimal own x small) (decimal_nonempty x small) refl
     ∙ ap (λ (ps : List Part). Digits (decimal x) ∷ Gap ∷ ps) (cut_tail high ys y rest low r.1)
 
-cut_line : (high : ℕ) (xs rest : List ℕ) → high ≤ 32 → Rises 0 high xs → parts_of ((marks_text xs ++ 10 ∷ []) ++ rest) ≡ marks_parts xs ++ Break ∷ parts_of rest
+cut_line : (high : ℕ) (xs rest : List ℕ) → high ≤ 32 → Rises 0 high xs → parts_of ((spaced_marks xs ++ 10 ∷ []) ++ rest) ≡ marks_parts xs ++ Break ∷ parts_of rest
 cut_line high [] rest low r = refl
 cut_line high (x ∷ xs) rest low r =
     let more = flat_map (λ (y : ℕ). 32 ∷ decimal y) xs in

@@ -3,6 +3,7 @@ use Rattle.std.proofs.Common.{◌≡◌, ℕ, suc, ◌+◌, ◌*◌, ◌/◌, �
 use Rattle.std.specs.Option.{option_map}
 use Rattle.std.proofs.lemmas.Bool.{eqb-true, ltb-false, not-false}
 use Rattle.std.proofs.lemmas.Option.{none-some}
+use Rattle.marks.specs.Bytes.{four_bytes}
 use Rattle.marks.specs.declared.refusal.Refusal.{Refusal}
 use Rattle.marks.specs.declared.refusal.Reason.TheVariants.{NoPlace, Long, Ragged, TooMany, Stray}
 use Rattle.marks.specs.Numbers.{most_charges}
@@ -11,7 +12,7 @@ use Rattle.marks.specs.Refusals.{unplaced, placed_at, due_if, first_due}
 use Rattle.marks.specs.Sets.{all_below}
 use Rattle.tables.specs.Packed.{row_bytes, packed_rows, packed_refusal, strays}
 use Rattle.tables.proofs.Packing.{rows_within}
-use Rattle.sheets.specs.Rendering.{four_bytes, packed_bytes, most_bytes}
+use Rattle.sheets.specs.Rendering.{packed_bytes, most_bytes}
 use Rattle.sheets.specs.Written.{sheet_of, write_refusal}
 
 -- ---- rows and bytes

@@ -2,10 +2,11 @@
 use Rattle.std.proofs.Common.{◌≡◌, ℕ, ◌^◌, ◌<◌, ◌≤◌, List, ◌++◌, length, take, drop, get_or, None, refl, sym, ap, ◌∙◌, subst, arith}
 use Rattle.std.proofs.lemmas.List.{take_at}
 use Rattle.std.proofs.Math.Nat.{pow-le-pow_right}
+use Rattle.marks.specs.Memory.{put_in_front}
 use Rattle.tables.specs.Packed.{packed_rows}
 use Rattle.sheets.specs.Reading.{Reading, reading, packed_into}
 use Rattle.sheets.specs.Rendering.{render, packed_bytes}
-use Rattle.sheets.specs.Written.{sheet_of, put_in_front, IsSheetOf}
+use Rattle.sheets.specs.Written.{sheet_of, IsSheetOf}
 use Rattle.sheets.proofs.Accepted.{accepted}
 use Rattle.sheets.proofs.Rendered.{sheet_read}
 use Rattle.sheets.proofs.Repacked.{Sheeted, repacked, rows_again, whole_rows}
@@ -20,7 +21,7 @@ module _ (n : ℕ) (bytes : List ℕ) (narrow : n ≤ 32) (fits : (i : ℕ) → 
   bytes_read : (memory : List ℕ) → length bytes ≤ length memory → packed_into (reading n (length memory) (sheet_of bytes)).rows memory ≡ put_in_front bytes memory
   bytes_read memory room =
       ap (λ (r : Reading). packed_into r.rows memory) (rows_read memory room)
-      ∙ (λ i. repacked bytes fits s.whole i ++ drop (whole_rows bytes s.whole i) memory)
+      ∙ ap (λ l. put_in_front l memory) (repacked bytes fits s.whole)
 
   only_text : (other : List ℕ) (room : ℕ) → (reading n room other).refusal ≡ None → packed_bytes (reading n room other).rows ≡ bytes → other ≡ sheet_of bytes
   only_text other room taken same =

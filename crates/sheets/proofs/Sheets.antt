@@ -1,7 +1,6 @@
 -- Which texts are accepted, by what comes of reading them.
 use Rattle.std.proofs.Common.{◌≡◌, ℕ, ◌*◌, ◌^◌, ◌<◌, ◌≤◌, List, [], length, get_or, take, drop, arith, Some, Ok, Err, Result, sym, refl, ap, ◌∙◌}
 use Rattle.std.proofs.Math.Pow.{pow_mono}
-use Rattle.std.proofs.lemmas.List.{take_at}
 use Rattle.std.proofs.lemmas.Bool.{le-ltb, lt-ltb}
 use Rattle.std.proofs.lemmas.Option.{none-some}
 use Rattle.marks.specs.declared.refusal.Reason.TheVariants.{Long}
@@ -12,7 +11,7 @@ use Rattle.sheets.specs.Accepting.{AcceptsSheets, AcceptsOnlySheets, IsOneSheet}
 use Rattle.sheets.specs.Reading.{Reading, text_reading, reading, packed_into}
 use Rattle.sheets.specs.Rendering.{packed_bytes, most_bytes}
 use Rattle.sheets.proofs.Accepted.{accepted}
-use Rattle.sheets.proofs.Passing.{length_packed}
+use Rattle.sheets.proofs.Passing.{packed_front}
 use Rattle.sheets.proofs.Repacked.{rows_again}
 use Rattle.sheets.proofs.Rendered.{sheet_read}
 
@@ -44,7 +43,7 @@ module _ (n : ℕ) (text old new : List ℕ) (narrow : n ≤ 32) where
   table : (rows : List ℕ) (count : ℕ) → count ≡ length rows → ((k : ℕ) → get_or rows k 0 < 2 ^ n) → new ≡ packed_into rows old → packed_rows (take (row_bytes * count) new) ≡ rows
   table rows count size within e =
       let front : take (row_bytes * count) new ≡ packed_bytes rows =
-      ap (take (row_bytes * count)) e ∙ take_at (packed_bytes rows) (drop (row_bytes * length rows) old) (row_bytes * count) (omega (arith, length_packed rows))
+      ap (take (row_bytes * count)) e ∙ packed_front rows old (row_bytes * count) (ap (λ k. row_bytes * k) size)
       in
       ap packed_rows front ∙ rows_again rows (λ k. omega (arith, within k, pow_mono {i = n} {j = 32} narrow))
 

@@ -13,9 +13,9 @@ use Rattle.sheets.specs.declared.line.Left.TheVariants.{Nothing}
 use Rattle.sheets.specs.declared.piece.Piece.{Piece}
 use Rattle.sheets.specs.declared.piece.Place.{Place}
 use Rattle.sheets.specs.declared.reading.Sheet.{Sheet}
-use Rattle.sheets.specs.Cutting.{Part, Digits, Gap, Break, Odd, blank, line_end, part_of_byte, led_by, part_bytes, parts_of, part_of, place_of, line_after, column_after, PartAt, StandsAt, PieceAt}
+use Rattle.sheets.specs.Cutting.{Part, Digits, Gap, Break, Odd, blank, line_end, part_of_byte, led_by, part_bytes, parts_of, part_of_piece, place_of, line_after, column_after, PartAt, StandsAt, PieceAt}
 use Rattle.sheets.specs.Knowing.{IsSound, Knows, Takes}
-use Rattle.sheets.specs.Lines.{is_nothing, is_blank, left_of, placed_at}
+use Rattle.sheets.specs.Lines.{is_nothing, is_blank, left_of, fault_at}
 use Rattle.sheets.specs.Reading.{text_of, rows_of, breaks, fault_after, part_fault, end_fault, Reading, unless_fault, reading_on, text_reading, packed_into}
 
 -- ---- the parts of a text
@@ -116,7 +116,7 @@ begin n text start sheet width row left count = record {
 }
 
 module _ {n : ℕ} {text start now : List ℕ} {at : ℕ} {sheet : Sheet} (s : Passed n text start now at sheet) where
-  pub placed : (place : Place) → StandsAt text at place → placed_at place ≡ fault_after s.passed
+  pub placed : (place : Place) → StandsAt text at place → fault_at place ≡ fault_after s.passed
   placed place p = λ i reason. placed_at_two reason ((p.line ∙ ap line_after (sym s.front)) i) ((p.column ∙ ap column_after (sym s.front)) i)
 
   -- a fault at a part
@@ -136,24 +136,24 @@ module _ {n : ℕ} {text start now : List ℕ} {at : ℕ} {sheet : Sheet} (s : P
   module _ (to : ℕ) (piece : Piece) (before : Bool) (new : Sheet) (held : List ℕ) (p : PieceAt text at to piece)
       (rest : Decides before ((rest : List ℕ) × (drop to text ≡ line_end ∷ rest))) (same : length now ≡ length start) where
     answer : (r : Result (Unit {0}) Refusal) → Takes piece before sheet new now held r
-        → Answers (part_fault n (length start) s.passed (part_of piece) (parts_of (drop to text))) (λ _. Knows (part_of piece ∷ s.passed) start held new) r
+        → Answers (part_fault n (length start) s.passed (part_of_piece piece) (parts_of (drop to text))) (λ _. Knows (part_of_piece piece ∷ s.passed) start held new) r
     answer r t =
-        subst (λ w. Answers (part_fault w (length start) s.passed (part_of piece) (parts_of (drop to text))) (λ _. Knows (part_of piece ∷ s.passed) start held new) r) s.width
+        subst (λ w. Answers (part_fault w (length start) s.passed (part_of_piece piece) (parts_of (drop to text))) (λ _. Knows (part_of_piece piece ∷ s.passed) start held new) r) s.width
         (t s.passed (parts_of (drop to text)) start s.knows same (placed (place_of piece) p.1) (same_from_decides before (breaks (parts_of (drop to text))) rest (breaks_decides (drop to text))))
 
     pub refused : (refusal : Refusal) → Takes piece before sheet new now held (Err refusal) → held ≡ now → Stopped n text start held refusal
     refused refusal t kept =
-        let due : part_fault n (length start) s.passed (part_of piece) (parts_of (drop to text)) ≡ Some refusal = answer (Err refusal) t in
+        let due : part_fault n (length start) s.passed (part_of_piece piece) (parts_of (drop to text)) ≡ Some refusal = answer (Err refusal) t in
         subst (λ l. Stopped n text start l refusal) (sym kept)
-        (stopped (ap (λ d. unless_fault d (rows_of s.passed) (reading_on n (length start) (part_of piece ∷ s.passed) (parts_of (drop to text)))) (sym due) ∙ at_part p.0))
+        (stopped (ap (λ d. unless_fault d (rows_of s.passed) (reading_on n (length start) (part_of_piece piece ∷ s.passed) (parts_of (drop to text)))) (sym due) ∙ at_part p.0))
 
     pub next : (x : Unit {0}) → Takes piece before sheet new now held (Ok x) → new.width ≡ sheet.width → Passed n text start held to new
     next x t width =
         let a = answer (Ok x) t in
         record {
-          passed = part_of piece ∷ s.passed;
-          front = ap (λ l. l ++ part_bytes (part_of piece)) s.front ∙ sym (front_more p.0);
-          onward = ap (λ d. unless_fault d (rows_of s.passed) (reading_on n (length start) (part_of piece ∷ s.passed) (parts_of (drop to text)))) (sym a.0) ∙ at_part p.0;
+          passed = part_of_piece piece ∷ s.passed;
+          front = ap (λ l. l ++ part_bytes (part_of_piece piece)) s.front ∙ sym (front_more p.0);
+          onward = ap (λ d. unless_fault d (rows_of s.passed) (reading_on n (length start) (part_of_piece piece ∷ s.passed) (parts_of (drop to text)))) (sym a.0) ∙ at_part p.0;
           knows = a.1;
           width = ap (λ w. w.number) width ∙ s.width;
         }
@@ -162,9 +162,9 @@ module _ {n : ℕ} {text start now : List ℕ} {at : ℕ} {sheet : Sheet} (s : P
   at_end : drop at text ≡ [] → record { refusal = end_fault s.passed; rows = rows_of s.passed } ≡ text_reading n (length start) text
   at_end e = ap (λ l. reading_on n (length start) s.passed (parts_of l)) (sym e) ∙ s.onward
 
-  pub unfinished : (place : Place) → drop at text ≡ [] → StandsAt text at place → is_nothing sheet.line.left ≡ false → Stopped n text start now (placed_at place NoLineEnd)
+  pub unfinished : (place : Place) → drop at text ≡ [] → StandsAt text at place → is_nothing sheet.line.left ≡ false → Stopped n text start now (fault_at place NoLineEnd)
   unfinished place e p begun =
-      let due : Some (placed_at place NoLineEnd) ≡ end_fault s.passed = λ i. due_if (not ((sym begun ∙ s.knows.nothing) i)) (placed place p i NoLineEnd) in
+      let due : Some (fault_at place NoLineEnd) ≡ end_fault s.passed = λ i. due_if (not ((sym begun ∙ s.knows.nothing) i)) (placed place p i NoLineEnd) in
       stopped (ap (λ (d : Option Refusal). record { refusal = d; rows = rows_of s.passed }) due ∙ at_end e)
 
   pub finished : drop at text ≡ [] → is_nothing sheet.line.left ≡ true → Done n text start now sheet.count

@@ -66,10 +66,10 @@ pub record StandsAt (text : List ℕ) (at : ℕ) (place : Place) : Type 0 where
   pub column : place.column ≡ column_after (take at text)
 
 -- which part of a text a piece is: a number is its digits
-abbrev pub part_of : Piece → Part
-part_of (Number digits place) = Digits digits.now
-part_of (Blank place) = Gap
-part_of (LineEnd place) = Break
+abbrev pub part_of_piece : Piece → Part
+part_of_piece (Number digits place) = Digits digits.now
+part_of_piece (Blank place) = Gap
+part_of_piece (LineEnd place) = Break
 
 -- and where: each piece has the place of its first byte
 abbrev pub place_of : Piece → Place
@@ -79,7 +79,7 @@ place_of (LineEnd place) = place
 
 -- The piece is the part of the text between two places.
 abbrev pub PieceAt : List ℕ → ℕ → ℕ → Piece → Type 0
-PieceAt text from to piece = PartAt text from to (part_of piece) × StandsAt text from (place_of piece)
+PieceAt text from to piece = PartAt text from to (part_of_piece piece) × StandsAt text from (place_of piece)
 
 -- What a reader that stands at one place answers, and at which place it then stands: the next piece; none at the end of the text;
 -- or the refusal of a byte that no sheet has, which it does not pass.

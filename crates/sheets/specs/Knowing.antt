@@ -1,14 +1,14 @@
 -- What is known of a sheet while it is read.
 use Rattle.std.specs.Prelude.{◌≡◌, ℕ, ◌+◌, ◌*◌, ◌<◌, Bool, true, List, ◌∷◌, ◌++◌, length, take, drop, Result, ⊤}
 use Rattle.std.specs.Str.{all_ascii_digits}
+use Rattle.marks.specs.Bytes.{four_bytes}
 use Rattle.marks.specs.declared.refusal.Refusal.{Refusal}
 use Rattle.marks.specs.Refusals.{Answers}
 use Rattle.marks.specs.Sets.{no_marks}
 use Rattle.tables.specs.Packed.{row_bytes}
-use Rattle.sheets.specs.Cutting.{Part, Digits, Gap, Break, Odd, part_of, place_of}
-use Rattle.sheets.specs.Lines.{is_nothing, is_blank, left_of, placed_at}
+use Rattle.sheets.specs.Cutting.{Part, Digits, Gap, Break, Odd, part_of_piece, place_of}
+use Rattle.sheets.specs.Lines.{is_nothing, is_blank, left_of, fault_at}
 use Rattle.sheets.specs.Reading.{open_row, rows_of, left_number, at_line_start, after_blank, breaks, fault_after, part_fault, packed_into}
-use Rattle.sheets.specs.Rendering.{four_bytes}
 use Rattle.sheets.specs.declared.line.Left.TheVariants.{Nothing}
 use Rattle.sheets.specs.declared.piece.Piece.{Piece}
 use Rattle.sheets.specs.declared.reading.Sheet.{Sheet}
@@ -40,5 +40,5 @@ pub record HasPacked (old new : Sheet) (held now : List ℕ) : Type 0 where
 abbrev pub Takes : Piece → Bool → Sheet → Sheet → List ℕ → List ℕ → Result (Unit {0}) Refusal → Type 0
 Takes piece before_line_end old new held now result =
     (passed parts : List Part) (start : List ℕ)
-    → Knows passed start held old → length held ≡ length start → placed_at (place_of piece) ≡ fault_after passed → before_line_end ≡ breaks parts
-    → Answers (part_fault old.width.number (length start) passed (part_of piece) parts) (λ _. Knows (part_of piece ∷ passed) start now new) result
+    → Knows passed start held old → length held ≡ length start → fault_at (place_of piece) ≡ fault_after passed → before_line_end ≡ breaks parts
+    → Answers (part_fault old.width.number (length start) passed (part_of_piece piece) parts) (λ _. Knows (part_of_piece piece ∷ passed) start now new) result

@@ -27,8 +27,8 @@ is_blank (Mark mark) = false
 is_blank (Blank mark) = true
 
 -- a refusal at a place of the text
-abbrev pub placed_at : Place → Reason → Refusal
-placed_at place reason = placed_at_two reason place.line place.column
+abbrev pub fault_at : Place → Reason → Refusal
+fault_at place reason = placed_at_two reason place.line place.column
 
 -- a line with a mark more
 pub record HasAdded (old new : Line) (mark : ℕ) : Type 0 where

@@ -82,15 +82,15 @@ abbrev pub number_ranges : List (ℕ × ℕ)
 number_ranges = (1, most_marks) ∷ (1, most_charges) ∷ (0, most_marks) ∷ (1, most_charges) ∷ (0, most_charges) ∷ []
 
 -- a number that begins at a column, and has to be low to high
-abbrev pub range_due : ℕ → ℕ → ℕ → ℕ → Option Refusal
-range_due low high n column = due_if (not (nat_le low n && nat_le n high)) (placed_at_two Range 0 column)
+abbrev pub bounds_refusal : ℕ → ℕ → ℕ → ℕ → Option Refusal
+bounds_refusal low high n column = due_if (not (nat_le low n && nat_le n high)) (placed_at_two Range 0 column)
 
 -- of numbers that begin at columns, the first that is out of range
 abbrev pub ranges_refusal : List (ℕ × ℕ) → List ℕ → List ℕ → Option Refusal
 ranges_refusal [] numbers columns = None
 ranges_refusal (r ∷ ranges) [] columns = None
 ranges_refusal (r ∷ ranges) (n ∷ numbers) [] = None
-ranges_refusal (r ∷ ranges) (n ∷ numbers) (column ∷ columns) = option_or (range_due r.0 r.1 n column) (ranges_refusal ranges numbers columns)
+ranges_refusal (r ∷ ranges) (n ∷ numbers) (column ∷ columns) = option_or (bounds_refusal r.0 r.1 n column) (ranges_refusal ranges numbers columns)
 
 -- reading an order: form is judged over the whole line, and then the range of each number
 unfoldable pub order_refusal : List ℕ → Option Refusal

@@ -1,8 +1,9 @@
 -- Reading a sheet: which fault is the first, and which rows are packed.
-use Rattle.std.specs.Prelude.{ℕ, ◌+◌, ◌-◌, ◌*◌, Bool, true, false, cond, not, ◌||◌, List, [], ◌∷◌, ◌++◌, length, drop, fold, Some, None, Option, ◌==◌, nat_le, nat_lt, slice_index}
+use Rattle.std.specs.Prelude.{ℕ, ◌+◌, ◌-◌, ◌*◌, Bool, true, false, cond, not, ◌||◌, List, [], ◌∷◌, ◌++◌, length, fold, Some, None, Option, ◌==◌, nat_le, nat_lt, slice_index}
 use Rattle.marks.specs.declared.refusal.Reason.{Reason}
 use Rattle.marks.specs.declared.refusal.Reason.TheVariants.{BadByte, BadNumber, BadRise, BadBlank, NoLineEnd, TooMany, NoPlace, Long}
 use Rattle.marks.specs.declared.refusal.Refusal.{Refusal}
+use Rattle.marks.specs.Memory.{put_in_front}
 use Rattle.marks.specs.Numbers.{most_charges, bit_of}
 use Rattle.marks.specs.Refusals.{unplaced, placed_at_two, due_if, first_due}
 use Rattle.marks.specs.Sets.{no_marks, with_bit}
@@ -132,4 +133,4 @@ reading n room text = cond (nat_lt most_bytes (length text)) (record { refusal =
 
 -- what memory holds once these rows are packed into it
 abbrev pub packed_into : List ℕ → List ℕ → List ℕ
-packed_into rows memory = packed_bytes rows ++ drop (row_bytes * length rows) memory
+packed_into rows memory = put_in_front (packed_bytes rows) memory

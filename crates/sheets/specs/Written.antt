@@ -1,7 +1,8 @@
 -- Writing packed bytes as a sheet.
-use Rattle.std.specs.Prelude.{◌≡◌, ℕ, ◌≤◌, List, [], ◌∷◌, ◌++◌, length, drop, None, Option, Result, nat_lt}
+use Rattle.std.specs.Prelude.{◌≡◌, ℕ, ◌≤◌, List, [], ◌∷◌, length, None, Option, Result, nat_lt}
 use Rattle.marks.specs.declared.refusal.Reason.TheVariants.{NoPlace, Long}
 use Rattle.marks.specs.declared.refusal.Refusal.{Refusal}
+use Rattle.marks.specs.Memory.{put_in_front}
 use Rattle.marks.specs.Refusals.{Answers, unplaced, due_if, first_due}
 use Rattle.tables.specs.Packed.{packed_rows, packed_refusal}
 use Rattle.sheets.specs.Reading.{reading, packed_into}
@@ -10,10 +11,6 @@ use Rattle.sheets.specs.Rendering.{render, packed_bytes, most_bytes}
 -- the sheet of packed bytes
 abbrev pub sheet_of : List ℕ → List ℕ
 sheet_of bytes = render (packed_rows bytes)
-
--- a text that stands in the front of memory that held these bytes, which are else as they were
-abbrev pub put_in_front : List ℕ → List ℕ → List ℕ
-put_in_front text memory = text ++ drop (length text) memory
 
 -- writing packed bytes of the width n into memory of so many bytes
 unfoldable pub write_refusal : List ℕ → ℕ → ℕ → Option Refusal

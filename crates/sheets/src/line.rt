@@ -4,7 +4,7 @@ ghost use Rattle.std.specs.Str.{all_ascii_digits};
 ghost use Rattle.marks.specs.Refusals.{Answers, due_if};
 ghost use Rattle.marks.specs.Sets.{no_marks};
 ghost use Rattle.sheets.specs.Reading.{worth, is_bad_number, number_fault};
-ghost use Rattle.sheets.specs.Lines.{is_nothing, is_blank, left_of, placed_at, HasAdded, HasParted};
+ghost use Rattle.sheets.specs.Lines.{is_nothing, is_blank, left_of, fault_at, HasAdded, HasParted};
 
 use crate::piece::Place;
 use marks::{Mark, MarkSet, Reason, Refusal, Width};
@@ -27,7 +27,7 @@ pub(crate) struct Line {
 
 // A refusal at a place of the text.
 pub(crate) fn refused(reason: Reason, place: Place) -> Refusal
-    ensures { result ≡ placed_at place reason }
+    ensures { result ≡ fault_at place reason }
 {
     Refusal::at_line(reason, place.line, place.column)
 }
@@ -86,7 +86,7 @@ impl Line {
     pub(crate) fn add(&mut self, digits: &[u8], place: Place, width: Width) -> Result<(), Refusal>
         requires some { 0 < length digits.now }
         requires all { all_ascii_digits digits.now ≡ true }
-        ensures { Answers (number_fault (placed_at place) width.number (left_of self.old.left) digits.now) (λ _. HasAdded self.old self.new (worth digits.now)) result }
+        ensures { Answers (number_fault (fault_at place) width.number (left_of self.old.left) digits.now) (λ _. HasAdded self.old self.new (worth digits.now)) result }
     {
         let Some(mark) = mark(digits, width) else {
             return Err(refused(Reason::BadNumber, place));
@@ -101,7 +101,7 @@ impl Line {
 
     // Passes a blank.
     pub(crate) fn part(&mut self, place: Place, before_line_end: bool) -> Result<(), Refusal>
-        ensures { Answers (due_if (is_nothing self.old.left || (is_blank self.old.left || before_line_end)) (placed_at place Reason.BadBlank)) (λ _. HasParted self.old self.new) result }
+        ensures { Answers (due_if (is_nothing self.old.left || (is_blank self.old.left || before_line_end)) (fault_at place Reason.BadBlank)) (λ _. HasParted self.old self.new) result }
     {
         match self.left {
             Left::Mark(mark) if !before_line_end => {

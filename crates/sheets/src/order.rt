@@ -5,7 +5,7 @@ ghost use Rattle.marks.specs.declared.refusal.Reason.TheVariants.{Range};
 ghost use Rattle.marks.specs.Refusals.{Answers, placed_at_two};
 ghost use Rattle.sheets.specs.Digits.{most_digits, leading_digits};
 ghost use Rattle.sheets.specs.Reading.{worth};
-ghost use Rattle.sheets.specs.OrderLines.{number_end, end_refusal, range_due, order_refusal, Says, ReadsRightLines};
+ghost use Rattle.sheets.specs.OrderLines.{number_end, end_refusal, bounds_refusal, order_refusal, Says, ReadsRightLines};
 
 use marks::{Charge, MOST_CHARGES, MOST_MARKS, Number, Reason, Refusal, Support, Width};
 
@@ -45,14 +45,14 @@ impl Numeral {
 
     // The number of a kind.
     fn of_kind<K, const MOST: u32>(self) -> Result<Number<K, MOST>, Refusal>
-        ensures { Answers (range_due 1 MOST self.value self.column) (λ n. n.number ≡ self.value) result }
+        ensures { Answers (bounds_refusal 1 MOST self.value self.column) (λ n. n.number ≡ self.value) result }
     {
         Number::new(u64::from(self.value)).map_err(|_| self.out_of_range())
     }
 
     // The number, if it is no more than `most`.
     fn up_to(self, most: u32) -> Result<u32, Refusal>
-        ensures { Answers (range_due 0 most self.value self.column) (λ n. n ≡ self.value) result }
+        ensures { Answers (bounds_refusal 0 most self.value self.column) (λ n. n ≡ self.value) result }
     {
         if self.value > most {
             return Err(self.out_of_range());

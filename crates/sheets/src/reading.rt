@@ -3,8 +3,8 @@ ghost use Rattle.std.specs.Prelude.{◌≡◌, length, OnErr};
 ghost use Rattle.marks.specs.Refusals.{Answers};
 ghost use Rattle.marks.specs.Sets.{no_marks};
 ghost use Rattle.sheets.specs.Accepting.{AcceptsOnlySheets, AcceptsSheets, IsOneSheet};
-ghost use Rattle.sheets.specs.Cutting.{part_of};
-ghost use Rattle.sheets.specs.Lines.{placed_at};
+ghost use Rattle.sheets.specs.Cutting.{part_of_piece};
+ghost use Rattle.sheets.specs.Lines.{fault_at};
 ghost use Rattle.sheets.specs.Knowing.{HasPacked, IsSound, Takes};
 ghost use Rattle.sheets.specs.Reading.{charge_fault, text_reading, reading, packed_into};
 ghost use Rattle.sheets.specs.declared.line.Left.{Left};
@@ -46,7 +46,7 @@ impl Sheet {
         before_line_end: bool,
         memory: &mut [u8],
     ) -> Result<(), Refusal>
-        requires { IsSound (part_of piece) }
+        requires { IsSound (part_of_piece piece) }
         ensures taken { Takes piece.entry before_line_end self.old self.new memory.old memory.new result }
         ensures kept { OnErr result (memory.new ≡ memory.old) }
         ensures width { self.new.width ≡ self.old.width }
@@ -60,7 +60,7 @@ impl Sheet {
 
     // Packs the line, which ends at a place, and begins the next.
     fn pack(&mut self, place: Place, memory: &mut [u8]) -> Result<(), Refusal>
-        ensures answer { Answers (charge_fault (placed_at place) (length memory.old) self.old.count) (λ _. HasPacked self.old self.new memory.old memory.new) result }
+        ensures answer { Answers (charge_fault (fault_at place) (length memory.old) self.old.count) (λ _. HasPacked self.old self.new memory.old memory.new) result }
         ensures kept { OnErr result (memory.new ≡ memory.old) }
         ensures width { self.new.width ≡ self.old.width }
     {

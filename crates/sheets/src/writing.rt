@@ -1,8 +1,9 @@
 // Writing packed bytes as a sheet.
 ghost use Rattle.std.specs.Prelude.{◌≡◌, ◌+◌, ◌≤◌, ◌++◌, length, take, drop, decimal, IfOk};
+ghost use Rattle.marks.specs.Memory.{put_in_front};
 ghost use Rattle.marks.specs.Refusals.{Kept};
-ghost use Rattle.sheets.specs.Rendering.{marks_of, marks_text, line_text, render};
-ghost use Rattle.sheets.specs.Written.{put_in_front, Writes, IsSheetOf};
+ghost use Rattle.sheets.specs.Rendering.{marks_of, spaced_marks, row_text, render};
+ghost use Rattle.sheets.specs.Written.{Writes, IsSheetOf};
 
 use crate::MOST_BYTES;
 use arrayvec::ArrayString;
@@ -26,7 +27,7 @@ fn add_mark(text: &mut Text, mark: Mark)
 
 // The marks of a row, one blank between neighbours.
 fn text_of_marks(row: MarkSet) -> Text
-    ensures value { result.bytes ≡ marks_text (marks_of row.bits) }
+    ensures value { result.bytes ≡ spaced_marks (marks_of row.bits) }
     ensures room { length result.bytes + 1 ≤ LONGEST }
 {
     let mut text = Text::new();
@@ -44,7 +45,7 @@ fn text_of_marks(row: MarkSet) -> Text
 
 // The line of a row: its marks, and the line end.
 fn line_of(row: MarkSet) -> Text
-    ensures value { result.bytes ≡ line_text row.bits }
+    ensures value { result.bytes ≡ row_text row.bits }
     ensures size { length result.bytes ≤ LONGEST }
 {
     let mut line = text_of_marks(row);

@@ -1,8 +1,9 @@
 -- A packed table: four bytes to a charge, low byte first.
-use Rattle.std.specs.Prelude.{ℕ, ◌+◌, ◌*◌, ◌/◌, ◌%◌, Bool, not, List, [], ◌∷◌, map, length, Option, ◌==◌, nat_lt, slice_index}
+use Rattle.std.specs.Prelude.{ℕ, ◌/◌, ◌%◌, Bool, not, List, [], ◌∷◌, map, length, Option, ◌==◌, nat_lt}
 use Rattle.std.specs.Option.{option_map}
 use Rattle.marks.specs.declared.refusal.Reason.TheVariants.{Ragged, TooMany, Stray}
 use Rattle.marks.specs.declared.refusal.Refusal.{Refusal}
+use Rattle.marks.specs.Bytes.{four_at}
 use Rattle.marks.specs.Numbers.{most_charges}
 use Rattle.marks.specs.Places.{first_place}
 use Rattle.marks.specs.Refusals.{unplaced, placed_at, due_if, first_due}
@@ -19,11 +20,11 @@ packed_rows [] = []
 packed_rows (a ∷ []) = []
 packed_rows (a ∷ b ∷ []) = []
 packed_rows (a ∷ b ∷ c ∷ []) = []
-packed_rows (a ∷ b ∷ c ∷ d ∷ rest) = (a + b * 256 + c * 65536 + d * 16777216) ∷ packed_rows rest
+packed_rows (a ∷ b ∷ c ∷ d ∷ rest) = four_at (a ∷ b ∷ c ∷ d ∷ []) 0 ∷ packed_rows rest
 
 -- the row that a chunk of four bytes holds, and those of a list of chunks
 abbrev pub chunk_row : List ℕ → ℕ
-chunk_row bytes = slice_index bytes 0 + slice_index bytes 1 * 256 + slice_index bytes 2 * 65536 + slice_index bytes 3 * 16777216
+chunk_row bytes = four_at bytes 0
 
 abbrev pub chunk_rows : List (List ℕ) → List ℕ
 chunk_rows chunks = map chunk_row chunks

@@ -13,9 +13,9 @@ use Rattle.worked.specs.declared.lists.Listing.{Listing}
 use Rattle.worked.specs.declared.lists.Listing.TheVariants.{HeldTwice, HeldOnce, HeldSixTimes, TwoMarks, OneMark, Light, InWindow, InSelection}
 use Rattle.worked.specs.declared.nodes.Narrowing.{Narrowing}
 use Rattle.worked.specs.declared.nodes.Narrowing.TheVariants.{WithoutOne, WithFour, WithFourWithoutTwo}
-use Rattle.worked.specs.Sample.{asked, answer, opened, ins, outs, narrowed, Lists, Narrows, Worked}
+use Rattle.worked.specs.Sample.{query_for, answer, opened, ins, outs, narrowed, Lists, Narrows, Worked}
 
-lists : (l : Listing) → Lists (asked l) (answer l) (opened l)
+lists : (l : Listing) → Lists (query_for l) (answer l) (opened l)
 unfolding has picked ones support_of closure_of windowed selected weight_below subsets turns node_tree records
 lists HeldTwice = record { sets = refl; all_records = refl; at_end = refl; nodes_up_to_each = refl; all_nodes = refl }
 lists HeldOnce = record { sets = refl; all_records = refl; at_end = refl; nodes_up_to_each = refl; all_nodes = refl }
@@ -26,7 +26,7 @@ lists Light = record { sets = refl; all_records = refl; at_end = refl; nodes_up_
 lists InWindow = record { sets = refl; all_records = refl; at_end = refl; nodes_up_to_each = refl; all_nodes = refl }
 lists InSelection = record { sets = refl; all_records = refl; at_end = refl; nodes_up_to_each = refl; all_nodes = refl }
 
-nodes : (n : Narrowing) → Narrows (asked HeldTwice) (ins n) (outs n) (narrowed n)
+nodes : (n : Narrowing) → Narrows (query_for HeldTwice) (ins n) (outs n) (narrowed n)
 unfolding has picked ones support_of closure_of subsets narrow_refusal narrow_in narrow_out
 nodes WithoutOne = (refl, refl)
 nodes WithFour = (refl, refl)

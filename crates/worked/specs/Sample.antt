@@ -45,35 +45,35 @@ weights =
     3 ∷ 4 ∷ 0 ∷ 0 ∷ 0 ∷ 0 ∷ 0 ∷ 0 ∷ 0 ∷ 0 ∷ 0 ∷ 0 ∷ 0 ∷ 0 ∷ 0 ∷ 0 ∷ 0 ∷ 0 ∷ 0 ∷ 0 ∷ 0 ∷ 0 ∷ 0 ∷ 0 ∷ 0 ∷ 0 ∷ 0 ∷ 0 ∷ 0 ∷ 0 ∷ 0 ∷ 0 ∷ []
 
 -- what is asked: which table, which limit, and the least support
-abbrev pub asked : Listing → Query
-asked HeldTwice = query sample any_size 2
-asked HeldOnce = query sample any_size 1
-asked HeldSixTimes = query sample any_size 6
-asked TwoMarks = query sample (small 2) 2
-asked OneMark = query sample (small 1) 2
-asked Light = query sample (light weights 6) 2
-asked InWindow = query (windowed 2 3 sample) any_size 2
-asked InSelection = query (selected (4 ∷ 2 ∷ []) sample) any_size 2
+abbrev pub query_for : Listing → Query
+query_for HeldTwice = query sample any_size 2
+query_for HeldOnce = query sample any_size 1
+query_for HeldSixTimes = query sample any_size 6
+query_for TwoMarks = query sample (small 2) 2
+query_for OneMark = query sample (small 1) 2
+query_for Light = query sample (light weights 6) 2
+query_for InWindow = query (windowed 2 3 sample) any_size 2
+query_for InSelection = query (selected (4 ∷ 2 ∷ []) sample) any_size 2
 
 -- a record: its ordinal, the marks of its set, their support, and how many nodes are opened up to it
-abbrev pub found : ℕ → List ℕ → ℕ → ℕ → Record
-found ordinal marks support opened = record { set = record { bits = set_of marks }; support = support; ordinal = ordinal; opened = opened }
+abbrev pub recorded : ℕ → List ℕ → ℕ → ℕ → Record
+recorded ordinal marks support opened = record { set = record { bits = set_of marks }; support = support; ordinal = ordinal; opened = opened }
 
 abbrev pub single_marks : List Record
-single_marks = found 1 (2 ∷ []) 4 2 ∷ found 2 (3 ∷ []) 2 4 ∷ found 3 [] 5 5 ∷ []
+single_marks = recorded 1 (2 ∷ []) 4 2 ∷ recorded 2 (3 ∷ []) 2 4 ∷ recorded 3 [] 5 5 ∷ []
 
 -- the answer: the records of the list
 abbrev pub answer : Listing → List Record
-answer HeldTwice = found 1 (1 ∷ 2 ∷ 4 ∷ []) 2 3 ∷ found 2 (1 ∷ 2 ∷ []) 3 4 ∷ found 3 (2 ∷ []) 4 6 ∷ found 4 (3 ∷ []) 2 8 ∷ found 5 [] 5 9 ∷ []
+answer HeldTwice = recorded 1 (1 ∷ 2 ∷ 4 ∷ []) 2 3 ∷ recorded 2 (1 ∷ 2 ∷ []) 3 4 ∷ recorded 3 (2 ∷ []) 4 6 ∷ recorded 4 (3 ∷ []) 2 8 ∷ recorded 5 [] 5 9 ∷ []
 answer HeldOnce =
-    found 1 (1 ∷ 2 ∷ 4 ∷ []) 2 3 ∷ found 2 (1 ∷ 2 ∷ []) 3 4 ∷ found 3 (2 ∷ 3 ∷ []) 1 7 ∷ found 4 (2 ∷ []) 4 8
-    ∷ found 5 (3 ∷ 5 ∷ []) 1 11 ∷ found 6 (3 ∷ []) 2 12 ∷ found 7 [] 5 13 ∷ []
+    recorded 1 (1 ∷ 2 ∷ 4 ∷ []) 2 3 ∷ recorded 2 (1 ∷ 2 ∷ []) 3 4 ∷ recorded 3 (2 ∷ 3 ∷ []) 1 7 ∷ recorded 4 (2 ∷ []) 4 8
+    ∷ recorded 5 (3 ∷ 5 ∷ []) 1 11 ∷ recorded 6 (3 ∷ []) 2 12 ∷ recorded 7 [] 5 13 ∷ []
 answer HeldSixTimes = []
-answer TwoMarks = found 1 (1 ∷ 2 ∷ []) 3 2 ∷ found 2 (2 ∷ []) 4 4 ∷ found 3 (3 ∷ []) 2 6 ∷ found 4 [] 5 7 ∷ []
+answer TwoMarks = recorded 1 (1 ∷ 2 ∷ []) 3 2 ∷ recorded 2 (2 ∷ []) 4 4 ∷ recorded 3 (3 ∷ []) 2 6 ∷ recorded 4 [] 5 7 ∷ []
 answer OneMark = single_marks
 answer Light = single_marks
-answer InWindow = found 1 (1 ∷ 2 ∷ []) 2 2 ∷ found 2 (2 ∷ []) 3 3 ∷ []
-answer InSelection = found 1 (1 ∷ 2 ∷ []) 2 2 ∷ found 2 (2 ∷ []) 4 4 ∷ found 3 [] 5 5 ∷ []
+answer InWindow = recorded 1 (1 ∷ 2 ∷ []) 2 2 ∷ recorded 2 (2 ∷ []) 3 3 ∷ []
+answer InSelection = recorded 1 (1 ∷ 2 ∷ []) 2 2 ∷ recorded 2 (2 ∷ []) 4 4 ∷ recorded 3 [] 5 5 ∷ []
 
 -- and how many nodes are opened at End
 abbrev pub opened : Listing → ℕ
@@ -87,11 +87,11 @@ opened InWindow = 3
 opened InSelection = 5
 
 -- What is listed: these sets, with these records, and so many nodes are opened at End. The nodes are counted in the tree too, up to the leaf of each set and in all.
-pub record Lists (q : Query) (found : List Record) (opened : ℕ) : Type 0 where
-  pub sets : the_list q ≡ map (λ r. r.set.bits) found
-  pub all_records : records q ≡ found
+pub record Lists (q : Query) (these : List Record) (opened : ℕ) : Type 0 where
+  pub sets : the_list q ≡ map (λ r. r.set.bits) these
+  pub all_records : records q ≡ these
   pub at_end : opened_at_end q (how_many q) ≡ opened
-  pub nodes_up_to_each : map (upto_leaf (nodes_of q)) (range_with_len 0 (length found)) ≡ map (λ r. r.opened) found
+  pub nodes_up_to_each : map (upto_leaf (nodes_of q)) (range_with_len 0 (length these)) ≡ map (λ r. r.opened) these
   pub all_nodes : length (nodes_of q) ≡ opened
 
 -- ---- nodes
@@ -123,5 +123,5 @@ Narrows q i o result = Answers (narrow_refusal q i o) (λ node. node ≡ node_of
 
 -- The table of the worked answers: each is what the definitions give of which the contracts of the finder and of narrowing speak.
 pub record Worked : Type 0 where
-  pub lists : (l : Listing) → Lists (asked l) (answer l) (opened l)
-  pub nodes : (n : Narrowing) → Narrows (asked HeldTwice) (ins n) (outs n) (narrowed n)
+  pub lists : (l : Listing) → Lists (query_for l) (answer l) (opened l)
+  pub nodes : (n : Narrowing) → Narrows (query_for HeldTwice) (ins n) (outs n) (narrowed n)

@@ -12,7 +12,7 @@ use Rattle.marks.specs.Places.{first_place}
 use Rattle.marks.proofs.Places.{first_number_some, first_number_none}
 use Rattle.limits.specs.declared.bars.Pair.{Pair}
 use Rattle.limits.specs.Pairs.{PairBefore, misplaced, no_pair}
-use Rattle.limits.specs.Barring.{placed, turned, unordered}
+use Rattle.limits.specs.Barring.{placed, high_first, out_of_order}
 use Rattle.limits.proofs.bars.first_misplaced.Goals as goal
 
 abbrev is_turned : Pair → Bool
@@ -37,10 +37,10 @@ module _ (pairs : List Pair) (n : ℕ) (within : n ≤ length pairs) (rising : R
       high : first_turned < n → misplaced pairs first ≡ true
       high l =
           let e : first ≡ first_turned = omega arith in
-          rw e (turned pairs first_turned (ltb-false _ _ (not-true _ (passes_at_first is_turned pairs no_pair (omega arith)))))
+          rw e (high_first pairs first_turned (ltb-false _ _ (not-true _ (passes_at_first is_turned pairs no_pair (omega arith)))))
 
       late : n ≤ first_turned → misplaced pairs first ≡ true
-      late l = let e : first ≡ n = omega arith in rw e (unordered pairs n (some (omega arith)) (omega arith) (stops (omega arith)))
+      late l = let e : first ≡ n = omega arith in rw e (out_of_order pairs n (some (omega arith)) (omega arith) (stops (omega arith)))
 
   unwrapped : (o : Option ℕ) → o ≡ position is_turned pairs → unwrap_or o (length pairs) ≡ first_turned
   unwrapped o e =

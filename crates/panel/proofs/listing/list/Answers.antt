@@ -4,7 +4,7 @@ use Rattle.tables.specs.Packed.{packed_meaning, packed_refusal}
 use Rattle.limits.specs.Limits.{small}
 use Rattle.closed.specs.Closed.{Query, query}
 use Rattle.finder.specs.Found.{how_many}
-use Rattle.panel.specs.Listing.{asked, judged, left_over, listed_into}
+use Rattle.panel.specs.Listing.{packed_query, judged, left_over, listed_into}
 use Rattle.panel.proofs.Told.{width_off, support_off, bytes_off, none_off, is_asked, list_refused, list_kept, list_told, list_written}
 use Rattle.panel.proofs.listing.list.Goals as goal
 use Rattle.panel.proofs.listing.list.Goals.{After-write_list}
@@ -54,7 +54,7 @@ module _ (c : After-write_list) where
   abbrev q : Query
   q = query (packed_meaning c.in_ok-table.table.width.number c.in_ok-table.table.rows.now) (small c.new-4.result.most) c.in_ok-support.support.number
 
-  q_is : q ≡ asked c.args.bytes.now c.args.width c.args.support c.args.most
+  q_is : q ≡ packed_query c.args.bytes.now c.args.width c.args.support c.args.most
   q_is =
       is_asked c.args.bytes.now c.args.width c.args.support c.args.most (packed_meaning c.in_ok-table.table.width.number c.in_ok-table.table.rows.now) c.in_ok-width.width.number c.new-4.result.most
       c.in_ok-support.support.number c.in_ok-table.ensures.1 c.in_ok-width.ensures.1 c.new-4.ensures c.in_ok-support.ensures.1

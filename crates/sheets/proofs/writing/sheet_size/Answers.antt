@@ -1,6 +1,6 @@
 use Rattle.std.proofs.Common.{◌+◌, length, refl, ap, ◌∙◌, arith}
 use Rattle.tables.proofs.Passing.{passing_start, passing_more}
-use Rattle.sheets.specs.Rendering.{line_text, render}
+use Rattle.sheets.specs.Rendering.{row_text, render}
 use Rattle.sheets.proofs.Lined.{some_short, size_more}
 use Rattle.sheets.proofs.writing.sheet_size.Goals as goal
 
@@ -17,6 +17,6 @@ overflow_add-size g c =
 pub loop-charge-preserved : goal.loop-charge-preserved
 loop-charge-preserved g c =
     let m = g.T.Table.meaning c.args.table.now in
-    passing_more (λ m. length (render m.rows)) m (λ row size. size + length (line_text row)) (size_more m)
+    passing_more (λ m. length (render m.rows)) m (λ row size. size + length (row_text row)) (size_more m)
     c.loop-charge.yielded c.loop-charge.charge-iterator c.next.new.self c.in-Some.charge c.in-Some.ensures.steps c.loop-charge.size _ c.loop-charge.invariant
-    (ap (λ n. c.loop-charge.size + n) (c.len-size.ensures.value ∙ ap length (c.line_of.ensures.value ∙ ap line_text c.row.ensures)))
+    (ap (λ n. c.loop-charge.size + n) (c.len-size.ensures.value ∙ ap length (c.line_of.ensures.value ∙ ap row_text c.row.ensures)))

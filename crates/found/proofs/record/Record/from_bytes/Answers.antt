@@ -1,5 +1,6 @@
 use Rattle.std.proofs.Common.{◌≡◌, ◌/◌, length, ◌∙◌, arith}
-use Rattle.found.specs.Records.{record_at, four_at, eight_at}
+use Rattle.marks.specs.Bytes.{four_at, eight_at}
+use Rattle.found.specs.Records.{record_at}
 use Rattle.found.proofs.Laying.{four_in, eight_in}
 use Rattle.found.proofs.record.Record.from_bytes.Goals as goal
 

@@ -1,6 +1,7 @@
 use Rattle.std.proofs.Common.{◌≡◌, ◌∙◌, ap, arith, w32}
 use Rattle.std.specs.Int.{to_le_bytes}
-use Rattle.found.specs.Records.{record_bytes, record_at, four_bytes, eight_bytes}
+use Rattle.marks.specs.Bytes.{four_bytes, eight_bytes}
+use Rattle.found.specs.Records.{record_bytes, record_at}
 use Rattle.found.proofs.Laying.{record_back}
 use Rattle.found.proofs.record.Record.to_bytes.Goals as goal
 

@@ -1,5 +1,3 @@
 pub mod Limits
 pub mod Pairs
-pub mod Barring
-pub mod Weighing
-pub mod Smallness
+pub mod Parts

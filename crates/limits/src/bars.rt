@@ -6,7 +6,7 @@ ghost use Rattle.marks.specs.Places.{first_place};
 ghost use Rattle.marks.specs.Refusals.{Answers};
 ghost use Rattle.limits.specs.Pairs.{holds_number, holds_pair, unbarred, PairBefore, off_range, misplaced, bars_refusal};
 ghost use Rattle.std.proofs.Common.{rules};
-ghost use Rattle.limits.specs.Barring.{unbarred_parts};
+ghost use Rattle.limits.specs.Parts.{unbarred_parts};
 
 use crate::limit::Limit;
 use marks::{Mark, MarkSet, Reason, Refusal, StrictOrder, first_passing, first_unordered};

@@ -1,7 +1,7 @@
 // The limit on how many marks.
 ghost use Rattle.std.specs.Prelude.{◌≡◌};
 ghost use Rattle.limits.specs.Limits.{small};
-ghost use Rattle.limits.specs.Smallness.{small_parts};
+ghost use Rattle.limits.specs.Parts.{small_parts};
 
 use crate::limit::Limit;
 use marks::MarkSet;

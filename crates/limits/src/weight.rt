@@ -1,7 +1,7 @@
 // The limit on weights.
 ghost use Rattle.std.specs.Prelude.{◌≡◌};
 ghost use Rattle.limits.specs.Limits.{light, weight_of};
-ghost use Rattle.limits.specs.Smallness.{light_parts};
+ghost use Rattle.limits.specs.Parts.{light_parts};
 
 use crate::limit::Limit;
 use marks::{MARKS, MarkSet};

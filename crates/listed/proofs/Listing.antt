@@ -1,12 +1,10 @@
 -- The lines of a list.
-use Rattle.std.proofs.Common.{◌≡◌, ℕ, ◌+◌, ◌<◌, ◌≤◌, List, [], ◌∷◌, ◌++◌, length, get_or, take, sym, ap, ◌∙◌, append-nil}
+use Rattle.std.proofs.Common.{◌≡◌, ℕ, ◌≤◌, List, ◌++◌, length, take, ap, ◌∙◌}
 use Rattle.std.specs.List.{flat_map, range_with_len}
-use Rattle.std.proofs.lemmas.List.{take_more, take_all, length-map}
-use Rattle.std.proofs.lemmas.List.Concat.{flat_map-append}
+use Rattle.std.proofs.lemmas.List.{take_all, length-map}
 use Rattle.std.proofs.lemmas.List.FromFn.{length-range_with_len}
 use Rattle.found.specs.declared.record.Record.{Record}
 use Rattle.found.specs.Lines.{end_text}
-use Rattle.found.specs.Records.{no_record}
 use Rattle.closed.specs.Closed.{Query}
 use Rattle.finder.specs.declared.whole.WholeList.{WholeList}
 use Rattle.finder.specs.Found.{how_many, records}

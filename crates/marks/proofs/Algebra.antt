@@ -1,13 +1,10 @@
 -- Set algebra by members: each law is a line.
-use Rattle.std.proofs.Common.{◌≡◌, ℕ, zero, suc, ◌+◌, ◌-◌, ◌*◌, ◌/◌, ◌%◌, ◌^◌, ◌<◌, ◌≤◌, min, true, false, not, ◌&&◌, ◌||◌, eqb, ltb, sym, ap, ◌∙◌, mod-lt, arith, pow_pos, shr-shr}
-use lib.Bits.{bit_and, bit_or, and_mask, and_step, or_disjoint}
-use Rattle.std.proofs.lemmas.Bool.{lt-ltb}
+use Rattle.std.proofs.Common.{◌≡◌, ℕ, ◌+◌, ◌/◌, ◌%◌, ◌^◌, ◌<◌, ◌≤◌, true, false, ◌&&◌, eqb, ltb, sym, ap, ◌∙◌, mod-lt, arith, pow_pos, shr-shr}
+use lib.Bits.{bit_and, and_mask}
 use Rattle.std.proofs.lemmas.Bool.Decides.{nat_tests}
 use Rattle.marks.specs.Sets.{has, PartOf, all_below, minus}
-use Rattle.marks.specs.Members.{members, has_and, has_or, has_all_below, has_zero, has_suc}
-use Rattle.marks.specs.Parts.{same_members, part_from_has, part_has, has_minus, part_le, and_part_left}
-use lib.Count.{ones}
-use Rattle.marks.specs.Sizes.{ones_or_and, ones_zero}
+use Rattle.marks.specs.Members.{members, has_and, has_all_below}
+use Rattle.marks.specs.Parts.{same_members, part_from_has, has_minus}
 
 pub minus_part : (s t : ℕ) → s < 2 ^ 32 → t < 2 ^ 32 → PartOf (minus s t) s
 minus_part s t p q = part_from_has (minus s t) s (λ b e. grind (arith, has_minus s t b p q))

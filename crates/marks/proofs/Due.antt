@@ -1,5 +1,5 @@
 -- Refusals that are due.
-use Rattle.std.proofs.Common.{◌≡◌, ℕ, Bool, true, false, not, leb, is_err, IsOk, Some, None, Ok, Err, Option, Result, sym, refl, ap, arith}
+use Rattle.std.proofs.Common.{◌≡◌, ℕ, not, leb, IsOk, Some, None, Ok, Err, Option, Result, refl, ap, arith}
 use Rattle.std.proofs.lemmas.Bool.{le-leb, and_from}
 use Rattle.marks.specs.declared.refusal.Reason.TheVariants.{Range}
 use Rattle.marks.specs.declared.refusal.Refusal.{Refusal}

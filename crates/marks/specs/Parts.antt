@@ -1,8 +1,8 @@
 -- One set a part of another.
-use Rattle.std.specs.Prelude.{◌≡◌, ℕ, zero, suc, ◌+◌, ◌^◌, ◌<◌, ◌≤◌, true, false, not, ◌&&◌, ◌||◌, Decides, ◌==◌, bit_and, bit_or, refl}
+use Rattle.std.specs.Prelude.{◌≡◌, ℕ, zero, suc, ◌+◌, ◌^◌, ◌<◌, ◌≤◌, true, false, not, ◌&&◌, ◌||◌, Decides, ◌==◌, bit_and, bit_or}
 use Rattle.std.proofs.Common.{sym, ap, ◌∙◌, subst, ⊎_elim, arith, mod-eq_of_lt, pow_pos}
 use Rattle.std.specs.Int.Bits.{and_self}
-use Rattle.std.proofs.lemmas.Bool.{eqb-true, eq-eqb, and_from, cases_eq}
+use Rattle.std.proofs.lemmas.Bool.{eqb-true, eq-eqb, cases_eq}
 use Rattle.std.proofs.lemmas.Bool.Decides.{nat_tests}
 use Rattle.std.proofs.lemmas.Nat.{pow_below, and_comm, and_le_l, and_le_r, and_mask, or_disjoint}
 use Rattle.marks.specs.Sets.{has, PartOf, part_of, all_below, with_bit, without_bit, minus}
@@ -50,11 +50,7 @@ part_antisym x y p q = sym p ∙ and_comm x y ∙ q
 pub part_le : (x y : ℕ) → PartOf x y → x ≤ y
 part_le x y p = omega (arith, and_le_r x y)
 
--- what two sets share is a part of the first
-pub and_part_left : (x y : ℕ) → PartOf (bit_and x y) x
-and_part_left x y = part_from_has (bit_and x y) x (λ b e. grind (arith, has_and))
-
--- two sets together: the first is a part, and the whole is a part of what both are parts of
+-- the first of two sets is a part of both together, which are a part of what each is a part of
 pub part_or_left : (x y : ℕ) → PartOf x (bit_or x y)
 part_or_left x y = part_from_has x (bit_or x y) (λ b e. grind (arith, has_or))
 

@@ -1,11 +1,11 @@
 -- How many members a set has, and its lowest and its highest member.
 use Rattle.std.specs.Prelude.{◌≡◌, ℕ, zero, suc, ◌+◌, ◌-◌, ◌*◌, ◌/◌, ◌%◌, ◌^◌, ◌<◌, ◌≤◌, min, max, true, false, not, ◌&&◌, ◌==◌, bit_and, bit_or, nat_eq, refl}
-use Rattle.std.proofs.Common.{sym, ap, ◌∙◌, arith, mod-lt, zero-lt-suc, pow_pos}
+use Rattle.std.proofs.Common.{sym, ap, ◌∙◌, arith, mod-lt, zero-lt-suc}
 use Rattle.std.proofs.Math.Arith.{bin_ind}
-use Rattle.std.specs.Int.Bits.{and_self, and_step, or_step, or_add_and}
+use Rattle.std.specs.Int.Bits.{and_step, or_step, or_add_and}
 use Rattle.std.specs.Int.Count.{ones, ones_step, count_trailing_zeros, count_leading_zeros, under}
 use Rattle.std.proofs.lemmas.Nat.{leading_top}
-use Rattle.std.proofs.lemmas.Bool.{eqb-true, eqb-false, eq-eqb, ne_eqb}
+use Rattle.std.proofs.lemmas.Bool.{eqb-true, eq-eqb, ne_eqb}
 use Rattle.std.proofs.lemmas.Bool.Decides.{nat_tests}
 use Rattle.marks.specs.Sets.{has, PartOf, with_bit, without_bit, Lowest, Highest}
 use Rattle.marks.specs.Members.{has_zero, has_suc, has_past, has_below}

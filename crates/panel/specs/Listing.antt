@@ -1,5 +1,5 @@
 -- Listing for the panel.
-use Rattle.std.specs.Prelude.{ℕ, ◌*◌, ◌/◌, List, [], ◌∷◌, length, take, flat_map, Option, Result, nat_lt}
+use Rattle.std.specs.Prelude.{ℕ, ◌/◌, List, [], ◌∷◌, length, take, flat_map, Option, Result, nat_lt}
 use Rattle.marks.specs.declared.refusal.Reason.TheVariants.{NoPlace}
 use Rattle.marks.specs.declared.refusal.Refusal.{Refusal}
 use Rattle.marks.specs.Memory.{put_in_front}

@@ -92,9 +92,6 @@ pub next_room : {row left n : ℕ} {written : List ℕ} (rest : ℕ) → 0 < n �
 next_room {n = n} {written = written} rest some small p e =
     omega (arith, (next_mark some p e).short, length-append (written ++ codes " ") (decimal n), length-append written (codes " "), decimal_nonempty n (omega arith))
 
-pub last_mark : {row left : ℕ} {written : List ℕ} → Partly row left written → bits_below most_marks left ≡ [] → written ≡ spaced_marks (marks_of row)
-last_mark {row = row} {left = left} {written = written} p e = sym (append-nil written) ∙ ap (λ bits. written ++ flat_map word bits) (sym e) ∙ p.whole
-
 -- ---- the lines of rows
 
 pub line_short : (row : ℕ) → length (row_text row) ≤ 96

@@ -14,7 +14,8 @@ use Rattle.marks.proofs.Picks.{has_picked, picked_same, picked_empty, picked_own
 use Rattle.marks.proofs.Places.{first_number_none}
 use Rattle.tables.specs.Columns.{word_bits, words_per_mark, column_has, column_rows, past_count, columns_refusal, columns_meaning, turned_word, turned, put_word, turn_refusal}
 use Rattle.tables.specs.Meaning.{Meaning, Proper, count_of}
-use Rattle.tables.specs.Columned.{column_count, column_at, columns_same, accepted}
+use Rattle.tables.specs.Columned.{column_count, column_at, columns_same}
+use Rattle.tables.proofs.Spills.{accepted}
 
 -- ---- one row put in, mark by mark
 

@@ -1,14 +1,14 @@
 -- What a layer of reversed marks and a window answer, and that they are proper.
-use Rattle.std.specs.Prelude.{◌≡◌, ℕ, ◌+◌, ◌-◌, ◌^◌, ◌<◌, ◌≤◌, min, drop, bit_and, slice_index}
+use Rattle.std.specs.Prelude.{◌≡◌, ℕ, ◌+◌, ◌-◌, ◌^◌, ◌<◌, min, drop, bit_and, slice_index}
 use Rattle.std.proofs.Math.Path.{refl, ap}
 use Rattle.std.proofs.Common.{sym, ◌∙◌, subst, inl, inr, arith}
 use Rattle.std.specs.Int.Bits.{mask_lt}
 use Rattle.std.proofs.lemmas.Nat.{pow_pos, xor_lt}
 use Rattle.std.proofs.lemmas.List.{get_or_past, get_or-take, get_or-drop, get_or-map, length-take, length-drop, length-map}
 use Rattle.std.proofs.lemmas.Bool.{cases_lt}
-use Rattle.marks.specs.Numbers.{most_marks, most_charges, InRange}
+use Rattle.marks.specs.Numbers.{most_marks, InRange}
 use Rattle.marks.specs.Sets.{both, differing, all_below}
-use Rattle.tables.specs.Meaning.{Meaning, Proper, count_of, row_of}
+use Rattle.tables.specs.Meaning.{Meaning, Proper, count_of}
 use Rattle.tables.specs.Layers.{reversed, windowed}
 
 -- ---- reversed marks

@@ -34,11 +34,15 @@ occurs x list = is_some (first_place (nat_eq x) list)
 abbrev pub repeats : List ℕ → ℕ → Bool
 repeats marks i = occurs (slice_index marks i) (take i marks)
 
+-- no mark
+abbrev pub outside : ℕ → Bool
+outside mark = not (in_range most_marks mark)
+
 -- choosing the marks of a list
 unfoldable pub choice_refusal : List ℕ → Option Refusal
 choice_refusal marks =
     first_due
-    (option_map (placed_at Range) (first_place (λ mark. not (in_range most_marks mark)) marks)
+    (option_map (placed_at Range) (first_place outside marks)
     ∷ due_if (length marks == 0) (placed_at BadChoice 1)
     ∷ option_map (placed_at BadChoice) (first_place (repeats marks) (range_with_len 0 (length marks)))
     ∷ [])

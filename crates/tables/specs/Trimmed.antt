@@ -1,12 +1,12 @@
 -- What is trimmed is proper, and what is proper is not trimmed.
-use Rattle.std.specs.Prelude.{◌≡◌, ℕ, ◌-◌, ◌%◌, ◌^◌, ◌<◌, ◌≤◌, min, List, map, length, take, slice_index, refl}
-use Rattle.std.proofs.Common.{sym, ap, ◌∙◌, inl, inr, mod-eq_of_lt, arith}
+use Rattle.std.specs.Prelude.{◌≡◌, ℕ, ◌-◌, ◌%◌, ◌^◌, ◌<◌, ◌≤◌, min, List, length, take, slice_index, refl}
+use Rattle.std.proofs.Common.{sym, ap, ◌∙◌, inl, inr, arith}
 use Rattle.std.proofs.lemmas.Nat.{pow_pos, mod_below, and_mask}
-use Rattle.std.proofs.lemmas.List.{get_or_past, get_or-take, get_or-map, length-take, length-map, take_all, ext_get_or}
+use Rattle.std.proofs.lemmas.List.{get_or_past, get_or-take, get_or-map, length-take, length-map}
 use Rattle.std.proofs.lemmas.Bool.{cases_lt}
 use Rattle.marks.specs.Numbers.{most_charges}
 use Rattle.marks.specs.Sets.{both, all_below}
-use Rattle.tables.specs.Meaning.{Meaning, Proper, count_of, row_of, nearest_width, trimmed}
+use Rattle.tables.specs.Meaning.{Proper, count_of, row_of, nearest_width, trimmed}
 
 abbrev trim : ℕ → ℕ → ℕ
 trim n row = row % 2 ^ nearest_width n

@@ -3,7 +3,8 @@ use Rattle.marks.specs.declared.refusal.Reason.TheVariants.{Stray}
 use Rattle.marks.specs.declared.refusal.Refusal.{Refusal}
 use Rattle.marks.specs.Numbers.{most_charges}
 use Rattle.marks.specs.Refusals.{placed_at}
-use Rattle.tables.specs.Columned.{columns_same, refused_many, refused_size, refused_stray, accepted}
+use Rattle.tables.specs.Columned.{columns_same}
+use Rattle.tables.proofs.Spills.{refused_many, refused_size, refused_stray, accepted}
 use Rattle.tables.proofs.columns.Columns.new.Goals as goal
 
 pub returns-then-count-from : goal.returns-then-count-from

@@ -3,7 +3,7 @@ use Rattle.std.proofs.lemmas.Bool.{eq-eqb}
 use Rattle.marks.specs.Numbers.{bit_of}
 use Rattle.marks.specs.Sets.{no_marks}
 use Rattle.tables.specs.Columns.{word_bits, words_per_mark, past_count}
-use Rattle.tables.specs.Columned.{none_past, past_is}
+use Rattle.tables.proofs.Spills.{none_past, past_is}
 use Rattle.tables.proofs.columns.Columns.spills.Goals as goal
 
 pub returns-then-used-ne0 : goal.returns-then-used-ne0

@@ -1,7 +1,7 @@
 use Rattle.std.proofs.Common.{rules}
 use borrow.Author.Tests.{tests}
 use Rattle.marks.proofs.Places.{passing_first}
-use Rattle.tables.specs.Choosing.{outside}
+use Rattle.tables.specs.Layers.{outside}
 use Rattle.tables.proofs.layers.choice.first_outside.Goals as goal
 
 pub returns : goal.returns

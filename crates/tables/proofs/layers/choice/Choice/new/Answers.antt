@@ -5,7 +5,8 @@ use Rattle.marks.specs.declared.refusal.Refusal.{Refusal}
 use Rattle.marks.specs.Numbers.{most_marks, InRange}
 use Rattle.marks.proofs.Due.{range_due}
 use Rattle.tables.specs.Chosen.{chosen}
-use Rattle.tables.specs.Choosing.{refused_empty, accepted, at_most, inside, chosen_all}
+use Rattle.tables.specs.Choosing.{chosen_all}
+use Rattle.tables.proofs.Choices.{refused_empty, accepted, at_most, inside}
 use Rattle.tables.proofs.Made.{made}
 use Rattle.tables.proofs.layers.choice.Choice.new.Goals as goal
 

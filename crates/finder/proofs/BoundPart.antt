@@ -1,6 +1,8 @@
 -- What runs tell of the bound: between two sets in a row at most as many nodes are opened as there are marks.
-use Rattle.std.proofs.Common.{◌≡◌, ℕ, ◌+◌, ◌<◌, ◌≤◌, Bool, List, [], sym, ap, ◌∙◌, subst, arith}
-use Rattle.tables.specs.Meaning.{Meaning, Proper}
+use Rattle.std.proofs.Common.{◌≡◌, ◌+◌, ◌<◌, ◌≤◌, List, [], sym, ap, ◌∙◌, subst, arith}
+use Rattle.tables.specs.Meaning.{Proper}
+use Rattle.tables.specs.declared.table.Table.{Ghosts as Tables}
+use Rattle.limits.specs.declared.limit.Limit.{Ghosts as Limits}
 use Rattle.found.specs.declared.record.Record.{Record}
 use Rattle.closed.specs.Closed.{Query}
 use Rattle.finder.specs.declared.finder.Finder.{Finder}
@@ -24,10 +26,10 @@ module _ (q : Query) where
       subst (λ x. s.opened ≤ x.opened + q.table.width) (sym o.is)
       (subst (λ x. x.opened ≤ (found_at q o.place).opened + q.table.width) (sym s_is) (opened_grows q o.place here))
 
-module _ {T W : Type 0} (meaning : T → Meaning) (allowed : W → ℕ → Bool) (q : Query) (proper : Proper q.table) where
-  pub bound_part : (entries : List Entry) (f h : Finder T W) → Standing meaning allowed q f [] → Run meaning allowed f entries h → BoundPart q entries
+module _ {T W : Type 0} {tables : Tables T} {limits : Limits W} (q : Query) (proper : Proper q.table) where
+  pub bound_part : (entries : List Entry) (f h : Finder T W tables limits) → Standing q f [] → Run f entries h → BoundPart q entries
   bound_part entries f h s run =
-      let of_list = shows_list meaning allowed q proper entries f h [] s run in
+      let of_list = shows_list q proper entries f h [] s run in
       record {
         at_first = λ r m e. first_few q r (of_list r m) e;
         grows = λ r s m n e. grows_few q r s (of_list r m) (of_list s n) e;

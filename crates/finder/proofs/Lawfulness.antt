@@ -1,33 +1,38 @@
 -- The law of all runs.
-use Rattle.std.proofs.Common.{ℕ, Bool, [], sym, refl, arith}
-use Rattle.marks.specs.Kinds.{Support}
-use Rattle.tables.specs.Meaning.{Meaning, Proper}
-use Rattle.finder.specs.Calls.{begun, query_of}
+use Rattle.std.proofs.Common.{◌≡◌, [], sym, ap, subst}
+use Rattle.tables.specs.Meaning.{Proper}
+use Rattle.tables.specs.declared.table.Table.{Ghosts as Tables}
+use Rattle.limits.specs.declared.limit.Limit.{Ghosts as Limits}
+use Rattle.finder.specs.declared.finder.Finder.{Finder}
+use Rattle.finder.specs.declared.narrowing.Query.{Query as Asked}
+use Rattle.finder.specs.Asked.{asked}
+use Rattle.finder.specs.Calls.{query_of, Fresh}
+use Rattle.finder.specs.Found.{ordinal_of}
+use Rattle.finder.specs.Runs.{Lawful}
 use Rattle.finder.specs.Running.{EveryRunLawful}
-use Rattle.finder.proofs.Handing.{handed_none}
-use Rattle.finder.proofs.Listing.{last_at_none}
+use Rattle.finder.proofs.Handing.{Handed, handed_none}
 use Rattle.finder.proofs.Standing.{Standing}
 use Rattle.finder.proofs.ListPart.{list_part}
 use Rattle.finder.proofs.CountPart.{count_part}
 use Rattle.finder.proofs.BoundPart.{bound_part}
 
-module _ {T W : Type 0} (meaning : T → Meaning) (allowed : W → ℕ → Bool) (table : T) (limit : W) (support : Support) (proper : Proper (meaning table)) where
-  -- a finder that is fresh from begin stands before the first set
-  pub standing_begun : Standing meaning allowed (query_of meaning allowed (begun table limit support)) (begun table limit support) []
-  standing_begun =
-      let q = query_of meaning allowed (begun table limit support) in
-      record {
-        place = 0;
-        lists = refl;
-        stands = record { within = omega arith; last_is = sym (last_at_none q) };
-        handed = handed_none q;
-      }
+module _ {T W : Type 0} {tables : Tables T} {limits : Limits W} (a : Asked T W) (f : Finder T W tables limits) (fresh : Fresh a f) where
+  -- a finder that is fresh from begin lists what is asked for
+  pub fresh_lists : query_of f ≡ asked tables.meaning limits.allowed a
+  fresh_lists = ap (asked tables.meaning limits.allowed) fresh.0
 
-  pub every_run_lawful : EveryRunLawful meaning allowed (begun table limit support)
-  every_run_lawful entries h run =
-      let q = query_of meaning allowed (begun table limit support) in
-      record {
-        list = list_part meaning allowed q proper entries (begun table limit support) h standing_begun run;
-        count = count_part meaning allowed q proper entries (begun table limit support) h standing_begun run;
-        bound = bound_part meaning allowed q proper entries (begun table limit support) h standing_begun run;
-      }
+  -- and stands before the first set
+  pub fresh_stands : Standing (asked tables.meaning limits.allowed a) f []
+  fresh_stands =
+      let q = asked tables.meaning limits.allowed a in
+      record { lists = fresh_lists; handed = subst (Handed q []) (sym (ap ordinal_of fresh.1)) (handed_none q) }
+
+  pub fresh_lawful : Proper (tables.meaning a.table) → EveryRunLawful f
+  fresh_lawful proper entries h run =
+      let q = asked tables.meaning limits.allowed a in
+      subst (λ p. Lawful p entries) (sym fresh_lists)
+      (record {
+        list = list_part q proper entries f h fresh_stands run;
+        count = count_part q proper entries f h fresh_stands run;
+        bound = bound_part q proper entries f h fresh_stands run;
+      })

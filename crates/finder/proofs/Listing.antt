@@ -1,9 +1,8 @@
 -- The records of a list: which they are, that their bytes tell them, and what their numbers say of the list and of its tree.
-use Rattle.std.proofs.Common.{◌≡◌, ℕ, zero, suc, ◌+◌, ◌-◌, ◌*◌, ◌^◌, ◌<◌, ◌≤◌, false, eqb, List, [], ◌∷◌, ◌++◌, length, get_or, drop, Some, None, Option, sym, refl, ap, ◌∙◌, subst, add-one, arith, pow_mono}
+use Rattle.std.proofs.Common.{◌≡◌, ℕ, zero, suc, ◌+◌, ◌-◌, ◌*◌, ◌^◌, ◌<◌, ◌≤◌, false, eqb, List, [], ◌∷◌, ◌++◌, length, get_or, drop, Some, None, sym, refl, ap, ◌∙◌, subst, add-one, arith, pow_mono}
 use Rattle.std.proofs.lemmas.List.FromFn.{length-map-range_with_len, get_or-map-range_with_len}
 use Rattle.std.proofs.lemmas.List.Sums.{length-filter, count_by-le-length}
 use Rattle.std.proofs.lemmas.Bool.{ne_eqb, cond-false}
-use Rattle.std.specs.Option.{option_map_or}
 use Rattle.tables.specs.Meaning.{Proper}
 use Rattle.tables.specs.Holding.{support_of}
 use Rattle.found.specs.declared.record.Record.{Record}
@@ -77,12 +76,9 @@ module _ (q : Query) where
       sym (cond-false (eqb (suc k) 0) None (Some (last_of q (kth_record q (suc k)))) (ne_eqb (suc k) 0 (λ z. omega arith))) ∙ e in
       (omega arith, cc)
 
-  abbrev ordinal_in : Option Last → ℕ
-  ordinal_in last = option_map_or (λ l. l.found.ordinal) last 0
-
-  pub last_at_ordinal : (k : ℕ) → k ≤ how_many q → option_map_or (λ l. l.found.ordinal) (last_at_place q k) 0 ≡ k
-  last_at_ordinal zero h = ap ordinal_in last_at_none
-  last_at_ordinal (suc k) h = subst (λ j. ordinal_in (last_at_place q j) ≡ j) (add-one k) (ap ordinal_in (last_at_more k (omega arith)))
+  -- and its record is the one of that place
+  pub last_shows : (k : ℕ) (last : Last) → Some last ≡ last_at_place q k → last.found ≡ kth_record q k
+  last_shows k last e = ap (λ l. l.found) (last_at_some k last (sym e)).1
 
   -- ---- their numbers fit
 

@@ -23,11 +23,11 @@ use Rattle.finder.specs.declared.finder.Last.{Last}
 use Rattle.finder.specs.declared.finder.descent.Start.{Start}
 use Rattle.finder.specs.declared.narrowing.Node.{Node}
 use Rattle.finder.specs.Descents.{opened_node, unless, one_more, start_of, Ready, Turned, TurnedAside}
-use Rattle.finder.specs.Found.{how_many, record_of, kth_record, last_of, last_at_place, opened_at_end}
+use Rattle.finder.specs.Found.{how_many, record_of, kth_record, last_of, ordinal_of, last_at_place, opened_at_end}
 use Rattle.finder.specs.Nodes.{node_of}
 use Rattle.finder.proofs.Descending.{fits_opened, fits_narrowed, fits_ready}
 use Rattle.finder.proofs.Narrows.{accepted_parts}
-use Rattle.finder.proofs.Listing.{kth_more, last_at_more, last_at_some, last_at_ordinal, set_listed, turns_few, how_many_few}
+use Rattle.finder.proofs.Listing.{kth_more, last_at_more, last_at_some, set_listed, turns_few, how_many_few}
 
 module _ (q : Query) where
   abbrev n : ℕ
@@ -168,12 +168,16 @@ module _ (q : Query) where
   opened_end_some : (j k : ℕ) → j + 1 ≡ k → opened_at_end q k ≡ (kth_record q k).opened
   opened_end_some j k e = let z : eqb k 0 ≡ false = ne_eqb k 0 (omega arith) in rw z
 
-  -- the next set, as what is remembered of it
-  pub remembered : (k : ℕ) → Proper q.table → (x t c support last ordinal : ℕ) → At (listed q) n (k + 1) x t c → support ≡ support_of q.table x → last ≡ k
-      → ordinal ≡ min (last + 1) (2 ^ 64 - 1)
-      → (k < how_many q)
-      × (Some (record { found = record { set = record { bits = x }; support = support; ordinal = ordinal; opened = c }; turns = record { bits = t } }) ≡ last_at_place q (k + 1))
-  remembered k proper x t c support last ordinal at s l o = (here, same)
+  -- this is what is remembered of the set after the place k
+  pub record Next (k : ℕ) (last : Last) : Type 0 where
+    pub more : k < how_many q
+    pub counted : last.found.ordinal ≡ k + 1
+    pub is : Some last ≡ last_at_place q (k + 1)
+
+  pub remembered : (k : ℕ) → Proper q.table → (x t c support ordinal : ℕ) → At (listed q) n (k + 1) x t c → support ≡ support_of q.table x
+      → ordinal ≡ min (k + 1) (2 ^ 64 - 1)
+      → Next k (record { found = record { set = record { bits = x }; support = support; ordinal = ordinal; opened = c }; turns = record { bits = t } })
+  remembered k proper x t c support ordinal at s o = record { more = here; counted = counted; is = same }
     where
       here : k < how_many q
       here = let w = at.within in omega arith
@@ -211,25 +215,24 @@ module _ (q : Query) where
       x : ℕ
       x = get_or (the_list q) j 0
 
-  module _ (k : ℕ) (within : k ≤ how_many q) (last : Option Last) (last_is : last ≡ last_at_place q k) where
-    pub ordinal_is : option_map_or (λ l. l.found.ordinal) last 0 ≡ k
-    ordinal_is = ap (λ l. option_map_or (λ l. l.found.ordinal) l 0) last_is ∙ last_at_ordinal q k within
+  module _ (last : Option Last) (within : ordinal_of last ≤ how_many q) (stands : last ≡ last_at_place q (ordinal_of last)) where
+    abbrev k : ℕ
+    k = ordinal_of last
 
     pub turn_at_root : last ≡ None → (entry exit : ℕ) → entry ≡ option_map_or (λ l. l.found.opened) last 0 → exit ≡ one_more entry
-        → (r : Option Start) → r ≡ start_of (opened_node q no_marks no_marks) no_marks → Turned q k r exit
+        → (r : Option Start) → r ≡ start_of (opened_node q no_marks no_marks) no_marks → Turned q (ordinal_of last) r exit
     turn_at_root none entry exit e x r is =
-        let k_is : k ≡ 0 = sym ordinal_is ∙ ap (λ l. option_map_or (λ l. l.found.ordinal) l 0) none in
         let zero' : entry ≡ 0 = e ∙ ap (λ l. option_map_or (λ l. l.found.opened) l 0) none in
         let one : exit ≡ 1 = omega arith in
-        subst (λ j. Turned q j r exit) (sym k_is)
+        subst (λ j. Turned q j r exit) (sym (ap ordinal_of none))
         (subst (λ s. Turned q 0 s exit) (sym is) (subst (Turned q 0 (start_of (opened_node q no_marks no_marks) no_marks)) (sym one) (root_turned (opened_node q no_marks no_marks) refl)))
 
     pub turn_from : Proper q.table → (set : Last) → last ≡ Some set → (entry exit : ℕ) → entry ≡ option_map_or (λ l. l.found.opened) last 0 → (r : Option Start)
-        → TurnedAside q set.found.set.bits set.turns.bits entry r exit → Turned q k r exit
+        → TurnedAside q set.found.set.bits set.turns.bits entry r exit → Turned q (ordinal_of last) r exit
     turn_from proper set some entry exit e r turned = by turned
       where
         came : (1 ≤ k) × (set ≡ last_of q (kth_record q k))
-        came = last_at_some q k set (sym last_is ∙ some)
+        came = last_at_some q k set (sym stands ∙ some)
 
         x : ℕ
         x = set.found.set.bits

@@ -1,51 +1,42 @@
 -- Where a finder stands in its list, and what each call does to it.
-use Rattle.std.specs.Prelude.{◌≡◌, ℕ, ◌+◌, ◌<◌, ◌≤◌, Bool, List, length, Some, None, Ok, Err, Result}
-use Rattle.marks.specs.Kinds.{Support}
+use Rattle.std.specs.Prelude.{◌≡◌, ℕ, ◌+◌, ◌<◌, List, length, Some, None, Ok, Err, Result}
 use Rattle.marks.specs.declared.refusal.Refusal.{Refusal}
-use Rattle.tables.specs.Meaning.{Meaning}
+use Rattle.tables.specs.declared.table.Table.{Ghosts as Tables}
+use Rattle.limits.specs.declared.limit.Limit.{Ghosts as Limits}
 use Rattle.found.specs.Records.{written, slot_refusal}
 use Rattle.closed.specs.Closed.{Query}
 use Rattle.finder.specs.Asked.{asked}
 use Rattle.finder.specs.declared.finder.Finder.{Finder}
-use Rattle.finder.specs.declared.finder.Last.{Last}
+use Rattle.finder.specs.declared.narrowing.Query.{Query as Asked}
 use Rattle.finder.specs.declared.step.Step.{Step}
 use Rattle.finder.specs.declared.step.Step.TheVariants.{Found, End}
-use Rattle.finder.specs.Found.{how_many, last_at_place, opened_at_end, look_refusal}
+use Rattle.finder.specs.Found.{how_many, kth_record, ordinal_of, opened_at_end, look_refusal}
 
--- a finder that is fresh from begin
-abbrev pub begun : {T W : Type 0} → T → W → Support → Finder T W
-begun table limit support = record { query = record { table = table; limit = limit; support = support }; last = None }
-
--- the finder as it was after begin
-abbrev pub rewound : {T W : Type 0} → Finder T W → Finder T W
-rewound f = begun f.query.table f.query.limit f.query.support
-
--- the slot that held `before` and then holds `after` has the finder's last record
-abbrev pub Shows : {T W : Type 0} → Finder T W → List ℕ → List ℕ → Type 0
-Shows f before after = (last : Last) × (f.last ≡ Some last) × (after ≡ written last.found before)
-
-module _ {T W : Type 0} (meaning : T → Meaning) (allowed : W → ℕ → Bool) where
+-- A finder's type rests on what its tables mean and its limits allow, since it says that the finder stands at a place of its list: it remembers the set of its ordinal.
+module _ {T W : Type 0} {tables : Tables T} {limits : Limits W} where
   -- what the finder lists
-  abbrev pub query_of : Finder T W → Query
-  query_of f = asked meaning allowed f.query
+  abbrev pub query_of : Finder T W tables limits → Query
+  query_of f = asked tables.meaning limits.allowed f.query
 
-  -- The finder stands after the k-th set of its list: it remembers that set, with its record and turns. A finder fresh from begin stands after none, and remembers none.
-  pub record Stands (f : Finder T W) (k : ℕ) : Type 0 where
-    pub within : k ≤ how_many (query_of f)
-    pub last_is : f.last ≡ last_at_place (query_of f) k
+  -- a finder of what is asked for, as begin gives it: no set came yet, so it stands before the first
+  abbrev pub Fresh : Asked T W → Finder T W tables limits → Type 0
+  Fresh a f = (f.query ≡ a) × (f.last ≡ None)
 
-  -- What next does, by its answer, with a slot that held `before` and then holds `after`, to the finder f, which then is h. Found: there is a next set, and its
-  -- record is written. End: the list is out; the numbers are those of the last record, or 0 and 1 for an empty list; nothing changes. A refusal changes nothing.
-  abbrev pub NextDone : Finder T W → List ℕ → Result Step Refusal → List ℕ → Finder T W → Type 0
+  -- What next does, by its answer, with a slot that held `before` and then holds `after`, to the finder f, which then is h. Found: the list has a set after the one at
+  -- which f stands; its record is written, and h stands at it. End: the list is out; the numbers are those of the last record, or 0 and 1 for an empty list; nothing
+  -- changes. A refusal changes nothing.
+  abbrev pub NextDone : Finder T W tables limits → List ℕ → Result Step Refusal → List ℕ → Finder T W tables limits → Type 0
   NextDone f before (Ok Found) after h =
-      (slot_refusal (length before) ≡ None) × Shows h before after × (h.query ≡ f.query)
-      × ((k : ℕ) → Stands f k → (k < how_many (query_of f)) × Stands h (k + 1))
+      (slot_refusal (length before) ≡ None)
+      × (ordinal_of f.last < how_many (query_of f)) × (after ≡ written (kth_record (query_of f) (ordinal_of f.last + 1)) before)
+      × (h.query ≡ f.query) × (ordinal_of h.last ≡ ordinal_of f.last + 1)
   NextDone f before (Ok (End ordinal opened)) after h =
-      (slot_refusal (length before) ≡ None) × (after ≡ before) × (h ≡ f)
-      × ((k : ℕ) → Stands f k → (k ≡ how_many (query_of f)) × (ordinal ≡ k) × (opened ≡ opened_at_end (query_of f) k))
+      (slot_refusal (length before) ≡ None)
+      × (ordinal_of f.last ≡ how_many (query_of f)) × (ordinal ≡ ordinal_of f.last) × (opened ≡ opened_at_end (query_of f) (ordinal_of f.last))
+      × (after ≡ before) × (h ≡ f)
   NextDone f before (Err refusal) after h = (slot_refusal (length before) ≡ Some refusal) × (after ≡ before) × (h ≡ f)
 
-  -- What look does: the last record is written again, or the refusal that is due comes and the slot is as it was.
-  abbrev pub LookDone : Finder T W → List ℕ → Result (Unit {0}) Refusal → List ℕ → Type 0
-  LookDone f before (Ok done) after = (look_refusal (length before) f.last ≡ None) × Shows f before after
+  -- What look does: the record of the set at which the finder stands is written again, or the refusal that is due comes and the slot is as it was.
+  abbrev pub LookDone : Finder T W tables limits → List ℕ → Result (Unit {0}) Refusal → List ℕ → Type 0
+  LookDone f before (Ok done) after = (look_refusal (length before) f.last ≡ None) × (after ≡ written (kth_record (query_of f) (ordinal_of f.last)) before)
   LookDone f before (Err refusal) after = (look_refusal (length before) f.last ≡ Some refusal) × (after ≡ before)

@@ -1,7 +1,7 @@
 -- The records of a list, and what is opened on the way.
 use Rattle.std.specs.Prelude.{ℕ, ◌+◌, ◌-◌, ◌*◌, cond, List, [], ◌∷◌, map, length, Some, None, Option, ◌==◌, slice_index, slice_index_or}
 use Rattle.std.specs.List.{range_with_len}
-use Rattle.std.specs.Option.{is_none}
+use Rattle.std.specs.Option.{is_none, option_map_or}
 use Rattle.marks.specs.declared.refusal.Reason.TheVariants.{NothingYet}
 use Rattle.marks.specs.declared.refusal.Refusal.{Refusal}
 use Rattle.marks.specs.Refusals.{unplaced, due_if, first_due}
@@ -40,6 +40,10 @@ last_of q r = record { found = r; turns = record { bits = turns (listed q) q.tab
 -- the k-th set, as it is remembered; before the first set, none
 unfoldable pub last_at_place : Query → ℕ → Option Last
 last_at_place q k = cond (k == 0) None (Some (last_of q (kth_record q k)))
+
+-- the ordinal of the set that is remembered; before the first set, 0
+abbrev pub ordinal_of : Option Last → ℕ
+ordinal_of last = option_map_or (λ l. l.found.ordinal) last 0
 
 -- how many nodes are opened once the list is out after k sets: those up to the last set, or the root alone where there is none
 abbrev pub opened_at_end : Query → ℕ → ℕ

@@ -22,7 +22,7 @@ pub struct Node {
 }
 
 // What a list is made of: a table, a limit, and the least support.
-// Its ghost query is spelled out as `asked ..` in each contract: as an `impl Model` it would put bounds on this type and on `Finder`, which is no plainer.
+// Its ghost query is spelled out as `asked ..` in each contract: as an `impl Model` it would put bounds on this type too, which is no plainer.
 // The public calls take its parts one by one: a caller would make a query only to have it taken apart, which is no plainer.
 #[derive(Drop)]
 pub(crate) struct Query<T, W> {

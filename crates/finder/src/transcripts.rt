@@ -36,7 +36,7 @@ pub enum Told {
 impl<T: Table, W: Limit> Finder<T, W> {
     // Makes the move, with a slot of zeros. A `match` on the move: moves are data that a caller lists and the contract names, which closures could not be.
     fn make(&mut self, alloc: Global, asked: Move) -> Result<Told, AllocError>
-        ensures { IfOk result (λ told. (move_of told ≡ asked) × Does T.Table.meaning W.Limit.allowed self.old (entry_of told) self.new) }
+        ensures { IfOk result (λ told. (move_of told ≡ asked) × Does self.old (entry_of told) self.new) }
     {
         Ok(match asked {
             Move::Next { slot } => {

@@ -1,10 +1,11 @@
 // How a finder opens nodes: the one function that opens a node and counts it, and the way down from a node to its first leaf.
 ghost use Rattle.std.specs.Option.{option_map_or};
-ghost use Rattle.std.specs.Prelude.{◌≡◌, ℕ, IfSome};
+ghost use Rattle.std.specs.Prelude.{◌≡◌, IfSome};
 ghost use Rattle.marks.specs.Sets.{no_marks, minus, either};
 ghost use Rattle.finder.specs.Asked.{asked};
-ghost use Rattle.finder.specs.Calls.{query_of, Stands};
+ghost use Rattle.finder.specs.Calls.{query_of};
 ghost use Rattle.finder.specs.Descents.{opened_node, one_more, start_of, Ready, Landed, Turned, TurnedAside};
+ghost use Rattle.finder.specs.Found.{ordinal_of};
 
 use super::{Finder, Last};
 use crate::narrowing::{Node, Query};
@@ -100,8 +101,8 @@ impl<T: Table, W: Limit> Finder<T, W> {
     // Opens the node below which the next set lies: the root if no set came yet, and else the node at the highest mark where one is still to be opened, with that mark put
     // out. None if there is no such node, and so no set.
     pub(crate) fn turn(&self, opened: &mut u64) -> Option<Start>
-        ensures ready { IfSome result (λ start. Ready (query_of T.Table.meaning W.Limit.allowed self.now) start.node) }
-        ensures turned { (k : ℕ) → Stands T.Table.meaning W.Limit.allowed self.now k → opened.old ≡ option_map_or (λ last. last.found.opened) self.now.last 0 → Turned (query_of T.Table.meaning W.Limit.allowed self.now) k result opened.new }
+        ensures ready { IfSome result (λ start. Ready (query_of self.now) start.node) }
+        ensures turned { opened.old ≡ option_map_or (λ last. last.found.opened) self.now.last 0 → Turned (query_of self.now) (ordinal_of self.now.last) result opened.new }
     {
         // A `match`, and no `map_or_else`: its two closures could not both hold `opened`, which is lent to be changed.
         match self.last {

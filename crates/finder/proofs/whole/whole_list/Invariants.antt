@@ -6,7 +6,7 @@ use Rattle.finder.proofs.whole.whole_list.Given as goal
 
 abbrev pub invariant-loop-records : goal.invariant-loop-records
 invariant-loop-records g l =
-    Standing (λ table. g.T.Table.meaning table.now) (λ limit. g.W.Limit.allowed limit.now) (query (g.T.Table.meaning l.table) (g.W.Limit.allowed l.limit) l.fn.support.number) l.finder l.records.items
+    Standing (query (g.T.Table.meaning l.table) (g.W.Limit.allowed l.limit) l.fn.support.number) l.finder l.records.items
 
 -- how many sets are still to come
 abbrev pub decreases-loop-records : goal.decreases-loop-records

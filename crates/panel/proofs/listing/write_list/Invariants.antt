@@ -4,5 +4,5 @@ use Rattle.panel.proofs.listing.write_list.Given as goal
 
 abbrev pub invariant-loop-place : goal.invariant-loop-place
 invariant-loop-place g l =
-    Filled (λ table. g.T.Table.meaning table.now) (λ limit. g.W.Limit.allowed limit.now) (query (g.T.Table.meaning l.table) (g.W.Limit.allowed l.limit) l.fn.support.number)
+    Filled (query (g.T.Table.meaning l.table) (g.W.Limit.allowed l.limit) l.fn.support.number)
     l.fn.memory l.memory l.finder l.place

@@ -1,5 +1,6 @@
 pub mod Across
 pub mod Choices
+pub mod Layering
 pub mod Made
 pub mod Occurring
 pub mod Packing

@@ -22,7 +22,7 @@ module _ (flipped : ℕ) (m : Meaning) where
   unfolding reversed
   reversed_count = length-map m.rows _
 
-  reversed_at : (k : ℕ) → k < count_of m → slice_index (reversed flipped m).rows k ≡ differing (slice_index m.rows k) (both flipped (all_below m.width))
+  pub reversed_at : (k : ℕ) → k < count_of m → slice_index (reversed flipped m).rows k ≡ differing (slice_index m.rows k) (both flipped (all_below m.width))
   unfolding reversed
   reversed_at k h = get_or-map (λ row. differing row (both flipped (all_below m.width))) m.rows k 0 0 h
 
@@ -52,7 +52,7 @@ module _ (first count : ℕ) (m : Meaning) where
   unfolding windowed
   windowed_count = length-take count (drop (first - 1) m.rows) ∙ ap (min count) (length-drop (first - 1) m.rows)
 
-  windowed_at : (k : ℕ) → k < count → slice_index (windowed first count m).rows k ≡ slice_index m.rows (first - 1 + k)
+  pub windowed_at : (k : ℕ) → k < count → slice_index (windowed first count m).rows k ≡ slice_index m.rows (first - 1 + k)
   unfolding windowed
   windowed_at k h = get_or-take count (drop (first - 1) m.rows) k 0 h ∙ get_or-drop (first - 1) m.rows k 0
 

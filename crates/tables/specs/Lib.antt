@@ -4,6 +4,7 @@ pub mod Packed
 pub mod Chunked
 pub mod Columns
 pub mod Layers
+pub mod Layering
 pub mod Chosen
 pub mod Columned
 pub mod Trimmed

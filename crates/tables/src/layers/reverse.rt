@@ -4,6 +4,7 @@
 ghost use Rattle.std.specs.Prelude.{◌≡◌};
 ghost use Rattle.tables.specs.Layers.{reversed};
 ghost use Rattle.tables.specs.Laid.{reversed_proper};
+ghost use Rattle.tables.specs.Layering.{ReversesMarks};
 
 use crate::table::Table;
 use marks::{Charge, MarkSet, Width};
@@ -17,8 +18,10 @@ pub struct Reverse<T> {
 
 impl<T: Table> Reverse<T> {
     /// The layer that reverses the marks of `flipped`.
+    #[tactic(auto, using(crate::proofs::Layering::reverses))]
     pub fn new(below: T, flipped: MarkSet) -> Reverse<T>
-        ensures { result ≡ record { below = below; flipped = flipped } }
+        ensures value { result ≡ record { below = below; flipped = flipped } }
+        ensures marks { ReversesMarks flipped.bits (T.Table.meaning below) (⟦<Reverse<T> as Table>⟧.meaning result) }
     {
         Reverse { below, flipped }
     }

@@ -5,6 +5,7 @@ ghost use Rattle.std.specs.Prelude.{◌≡◌};
 ghost use Rattle.tables.specs.Chosen.{chosen};
 ghost use Rattle.tables.specs.Layers.{selected};
 ghost use Rattle.tables.specs.Choosing.{chosen_wide, selected_proper};
+ghost use Rattle.tables.specs.Layering.{ShowsMarks};
 
 use crate::layers::choice::Choice;
 use crate::table::Table;
@@ -19,8 +20,10 @@ pub struct Selection<T> {
 
 impl<T: Table> Selection<T> {
     /// The layer that shows the marks of `choice`.
+    #[tactic(auto, using(crate::proofs::Layering::shows_marks))]
     pub fn new(below: T, choice: Choice) -> Selection<T>
-        ensures { result ≡ record { below = below; choice = choice } }
+        ensures value { result ≡ record { below = below; choice = choice } }
+        ensures marks { ShowsMarks (chosen choice.marks choice.width.number) (T.Table.meaning below) (⟦<Selection<T> as Table>⟧.meaning result) }
     {
         Selection { below, choice }
     }

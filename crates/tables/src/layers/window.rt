@@ -4,6 +4,7 @@
 ghost use Rattle.std.specs.Prelude.{◌≡◌};
 ghost use Rattle.tables.specs.Layers.{windowed};
 ghost use Rattle.tables.specs.Laid.{windowed_proper};
+ghost use Rattle.tables.specs.Layering.{ShowsCharges};
 
 use crate::table::Table;
 use marks::{Charge, MarkSet, Width};
@@ -18,8 +19,10 @@ pub struct Window<T> {
 
 impl<T: Table> Window<T> {
     /// The layer that shows `count` charges from `first` on.
+    #[tactic(auto, using(crate::proofs::Layering::shows_charges))]
     pub fn new(below: T, first: Charge, count: u32) -> Window<T>
-        ensures { result ≡ record { below = below; first = first; count = count } }
+        ensures value { result ≡ record { below = below; first = first; count = count } }
+        ensures charges { ShowsCharges first.number count (T.Table.meaning below) (⟦<Window<T> as Table>⟧.meaning result) }
     {
         Window {
             below,

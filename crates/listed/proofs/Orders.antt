@@ -10,15 +10,6 @@ use Rattle.sheets.specs.OrderLines.{number_ends, ended_numbers, number_start, nu
 use Rattle.sheets.specs.Reading.{Reading, reading}
 use Rattle.listed.specs.Asking.{input_limit, sheet_room, sheet_reading, input_refusal}
 
--- the order line stands in the input, so the sheet begins within it
-pub sheet_within : (text : List ℕ) (o : Order) → ReadsRightLines text (Ok o) → o.sheet - 1 ≤ length text
-sheet_within text o r =
-    elim r.either [
-      | inl w ↦ (let line = ended_numbers number_ends w.0 in
-          omega (arith, (r.right w.0 w.1 w.2).1.1, ap length w.2.1, length-append line w.2.0))
-      | inr w ↦ (let never : ◌≡◌ {A = ℕ} 0 1 = cc (r.wrong w.0 w.1) in absurd (omega arith))
-    ]
-
 -- ---- the fault
 
 one_due : (due : Option Refusal) → first_due (due ∷ []) ≡ due

@@ -1,5 +1,5 @@
 -- That what a text says is what right lines say.
-use Rattle.std.proofs.Common.{◌≡◌, ℕ, zero, suc, ◌+◌, Bool, true, false, not, ◌⊎◌, List, [], ◌∷◌, ◌++◌, length, drop, decimal, Some, None, Ok, Err, Option, Result, refl, sym, ap, ◌∙◌, inl, inr, append_assoc, add-one, zero-add, arith}
+use Rattle.std.proofs.Common.{◌≡◌, ℕ, zero, suc, ◌+◌, ◌≤◌, Bool, true, false, not, ◌⊎◌, List, [], ◌∷◌, ◌++◌, length, drop, decimal, Some, None, Ok, Err, Option, Result, refl, sym, ap, ◌∙◌, inl, inr, append_assoc, add-one, zero-add, arith}
 use Rattle.std.specs.Option.{option_or}
 use Rattle.std.proofs.lemmas.List.{length-append, drop-drop, get_or_past}
 use Rattle.marks.specs.declared.refusal.Reason.TheVariants.{Form}
@@ -157,3 +157,13 @@ module _ (text : List ℕ) where
             (ap (λ (d : Option Refusal). option_or d (ranges_refusal number_ranges (numbers_in text) (columns_in text))) w.due ∙ ap (λ m. Some (placed_at_two Form 0 m)) place) answer h;
         either = inr (w.past, w.fault);
       }
+
+-- the order line stands in the text, so the sheet begins within it, or where it ends
+pub sheet_within : (text : List ℕ) (o : Order) → ReadsRightLines text (Ok o) → (1 ≤ o.sheet) × (o.sheet ≤ length text + 1)
+sheet_within text o r =
+    elim r.either [
+      | inl w ↦ (let line = ended_numbers number_ends w.0 in
+          let place = (r.right w.0 w.1 w.2).1.1 in
+          (omega (arith, place), omega (arith, place, ap length w.2.1, length-append line w.2.0)))
+      | inr w ↦ (let never : ◌≡◌ {A = ℕ} 0 1 = cc (r.wrong w.0 w.1) in absurd (omega arith))
+    ]

@@ -1,5 +1,5 @@
 // Reading the order line, which stands before a sheet.
-ghost use Rattle.std.specs.Prelude.{◌≡◌, ◌+◌, ◌<◌, ◌≤◌, length, drop};
+ghost use Rattle.std.specs.Prelude.{◌≡◌, ◌+◌, ◌<◌, ◌≤◌, length, drop, IfOk};
 ghost use Rattle.std.specs.Str.Parse.{AllDigits};
 ghost use Rattle.marks.specs.declared.refusal.Reason.TheVariants.{Range};
 ghost use Rattle.marks.specs.Refusals.{Answers, placed_at_two};
@@ -130,6 +130,7 @@ impl Numbers<'_> {
 pub fn read_order(text: &[u8]) -> Result<Order, Refusal>
     ensures answer { Answers (order_refusal text.now) (Says text.now) result }
     ensures lines { ReadsRightLines text.now result }
+    ensures place { IfOk result (λ order. (1 ≤ order.sheet) × (order.sheet ≤ length text.now + 1)) }
 {
     let mut numbers = Numbers { text, taken: 0 };
     let width = numbers.take(b' ')?;

@@ -7,7 +7,7 @@ pub returns : goal.returns
 returns c =
     let o = c.args.order in
     let rs = c.in_ok-list.list.records.items in
-    let w = rw (c.new-window.ensures, c.new.ensures) at c.in_ok-list.ensures in
+    let w = rw (c.new-window.ensures.value, c.new.ensures) at c.in_ok-list.ensures in
     let lines : c.loop-found.text.items ≡ lines_of rs c.loop-found.found-index = c.loop-found.invariant ∙ ap (λ l. lines_of l c.loop-found.found-index) c.deref-found-items.ensures.value in
     let sets = c.len.ensures ∙ c.in_ok-list.list.records.ok.0 in
     let all = whole_text _ c.in_ok-list.list c.loop-found.found-index w (omega (arith, c.loop-found-test.false, ap length c.deref-found-items.ensures.value)) in

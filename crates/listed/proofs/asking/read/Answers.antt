@@ -1,18 +1,12 @@
 use Rattle.std.proofs.Common.{◌≡◌, length, None, sym, ap, ◌∙◌, arith}
 use Rattle.sheets.specs.Reading.{Reading, reading, packed_into}
-use Rattle.listed.proofs.Orders.{sheet_within, too_long, order_fault, sheet_fault, behind, same_reading, sheet_refused}
+use Rattle.listed.proofs.Orders.{too_long, order_fault, sheet_fault, behind, same_reading, sheet_refused}
 use Rattle.listed.proofs.Packing.{packed}
 use Rattle.listed.proofs.Understanding.{long_understood, understood, faulty, asks}
 use Rattle.listed.proofs.asking.read.Goals as goal
 
 pub returns-then-input-ge-INPUT_LIMIT-clause-answer : goal.returns-then-input-ge-INPUT_LIMIT-clause-answer
 returns-then-input-ge-INPUT_LIMIT-clause-answer c = rw c.unplaced.ensures (too_long c.args.input.now c.if-input-ge-INPUT_LIMIT.true)
-
-pub slice_bounds-read_sheet-count : goal.slice_bounds-read_sheet-count
-slice_bounds-read_sheet-count c = sheet_within c.args.input.now c.in_ok-order.order c.in_ok-order.ensures.lines
-
-pub slice_bounds-read_sheet-start : goal.slice_bounds-read_sheet-start
-slice_bounds-read_sheet-start c = let h = sheet_within c.args.input.now c.in_ok-order.order c.in_ok-order.ensures.lines in omega arith
 
 pub returns-in_err-order-clause-answer : goal.returns-in_err-order-clause-answer
 returns-in_err-order-clause-answer c = let e = order_fault c.args.input.now c.if-input-ge-INPUT_LIMIT.false in grind (arith, e)

@@ -2,7 +2,7 @@ use Rattle.std.proofs.Common.{◌≡◌, ◌+◌, [], ◌∷◌, rules, arith}
 use Rattle.std.proofs.lemmas.Grind.{common_steps}
 use Rattle.sheets.specs.OrderLines.{number_in, number_start, order_refusal}
 use Rattle.sheets.proofs.Starts.{starts}
-use Rattle.sheets.proofs.OrderLaw.{reads_right_lines}
+use Rattle.sheets.proofs.OrderLaw.{reads_right_lines, sheet_within}
 use Rattle.sheets.proofs.order.read_order.Goals as goal
 
 pub returns-clause-answer : goal.returns-clause-answer
@@ -20,6 +20,9 @@ returns-clause-answer c =
 
 pub returns-clause-lines : goal.returns-clause-lines
 returns-clause-lines c = reads_right_lines c.args.text.now _ (returns-clause-answer c)
+
+pub returns-clause-place : goal.returns-clause-place
+returns-clause-place c = sheet_within c.args.text.now _ (returns-clause-lines c)
 
 pub returns-in_err-width-clause-lines : goal.returns-in_err-width-clause-lines
 unfolding order_refusal

@@ -15,7 +15,7 @@ use tables::Table;
 
 // Where a descent ends: a listed set, its support, and its marks at which a node is still to be opened.
 #[derive(Clone, Copy, PartialEq, Eq, Debug)]
-pub struct Leaf {
+pub(crate) struct Leaf {
     pub set: MarkSet,
     pub support: u32,
     pub turns: MarkSet,
@@ -23,7 +23,7 @@ pub struct Leaf {
 
 // Where the next set lies: the node that is opened for it, and the marks above it at which a node is still to be opened.
 #[derive(Clone, Copy, PartialEq, Eq, Debug)]
-pub struct Start {
+pub(crate) struct Start {
     pub node: Node,
     pub turns: MarkSet,
 }

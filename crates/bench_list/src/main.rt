@@ -3,7 +3,7 @@
 
 use finder::whole_list;
 use limits::Size;
-use marks::{MOST_MARKS, MarkSet, Refusal, Support, Width};
+use marks::{MOST_CHARGES, MOST_MARKS, MarkSet, Refusal, Support, Width};
 use std::alloc::{AllocError, Global};
 use std::io;
 use std::time::Instant;
@@ -34,16 +34,6 @@ impl From<AllocError> for Fault {
     }
 }
 
-// The bytes of a charge for each mark, which has all marks but that one: every set but that of all marks is then listed.
-fn complements(heap: Global, width: Width) -> Result<Vec<u8>, AllocError> {
-    let all = MarkSet::up_to(width);
-    let mut bytes: Vec<u8> = Vec::new(heap);
-    for mark in all.marks() {
-        bytes.extend_from_slice(&all.without(mark).bits().to_le_bytes())?;
-    }
-    Ok(bytes)
-}
-
 // The bytes of so many charges that are all unlike, and have about half of the marks each.
 fn scattered(heap: Global, count: u32, width: Width) -> Result<Vec<u8>, AllocError> {
     let all = MarkSet::up_to(width);
@@ -69,15 +59,15 @@ fn measure(rt: &HostRuntime, name: &str, table: &Packed, least: u64) -> Result<(
 }
 
 fn main(rt: HostRuntime) -> Result<(), Fault> {
-    let width = Width::new(17)?;
-    let bytes = complements(rt.alloc(), width)?;
+    let width = Width::new(27)?;
+    let bytes = scattered(rt.alloc(), 4_000, width)?;
+    measure(&rt, "many sets", &Packed::new(bytes.as_slice(), width)?, 90)?;
+    let width = Width::new(18)?;
+    let bytes = scattered(rt.alloc(), MOST_CHARGES, width)?;
     measure(
         &rt,
-        "complements",
+        "many charges",
         &Packed::new(bytes.as_slice(), width)?,
-        1,
-    )?;
-    let width = Width::new(24)?;
-    let bytes = scattered(rt.alloc(), 400, width)?;
-    measure(&rt, "scattered", &Packed::new(bytes.as_slice(), width)?, 6)
+        6_000,
+    )
 }

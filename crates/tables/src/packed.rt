@@ -68,9 +68,10 @@ impl Table for Packed<'_> {
     }
 
     fn row(&self, charge: Charge) -> MarkSet {
-        self.rows
-            .get(charge.place())
-            .map_or(MarkSet::empty(), row_at)
+        if charge.get() > self.count() {
+            return MarkSet::empty();
+        }
+        row_at(&self.rows[charge.place()])
     }
 
     ghost proper = { λ p. packed_proper p.width.number p.rows.now p.width.range p.few p.within };

@@ -1,29 +1,33 @@
 -- What narrowing answers.
-use Rattle.std.proofs.Common.{◌≡◌, ℕ, ◌^◌, ◌<◌, ◌≤◌, true, false, Bool, not, [], ◌∷◌, get_or, Some, None, Ok, Err, Option, Result, IfOk, refl, sym, ap, ◌∙◌, subst, arith}
+use Rattle.std.proofs.Common.{◌≡◌, ℕ, ◌^◌, ◌<◌, ◌≤◌, true, false, Bool, not, ◌&&◌, ◌==◌, eqb, [], ◌∷◌, get_or, Some, None, Ok, Err, Option, Result, IfOk, refl, sym, ap, ◌∙◌, subst, arith}
+use lib.Bits.{or_lt}
 use Rattle.std.specs.Option.{option_map_or}
-use Rattle.std.proofs.lemmas.Bool.{both_ways, or_parts, not-false, not_from_true, not_from_false}
+use Rattle.std.proofs.lemmas.Nat.{pow_below}
+use Rattle.std.proofs.lemmas.Bool.{both_ways, eqb-true, lt-ltb, or_right, eq-eqb, or_parts, not-false, not_from_true, not_from_false}
 use Rattle.marks.specs.declared.refusal.Reason.TheVariants.{Clash, DeadEnd}
 use Rattle.marks.specs.Numbers.{most_marks}
 use Rattle.marks.specs.declared.refusal.Refusal.{Refusal}
 use Rattle.marks.specs.Refusals.{number_of, unplaced, due_if, first_due, Answers}
 use Rattle.marks.proofs.Due.{none_due}
-use Rattle.marks.specs.Sets.{with_bit, picked}
-use Rattle.marks.specs.Parts.{part_fact, below_from_part}
+use Rattle.marks.specs.Sets.{has, no_marks, either, both, with_bit, picked}
+use Rattle.marks.specs.Members.{has_and, has_or, has_none, has_all_below}
+use Rattle.marks.specs.Parts.{part_fact, part_has, has_with, part_refl, part_antisym, part_or_left, with_part, below_from_part}
 use Rattle.marks.proofs.Picks.{picked_same}
 use Rattle.limits.specs.Limits.{AllowsParts}
-use Rattle.tables.specs.Holding.{support_of, closure_of, holding_of}
+use Rattle.tables.specs.declared.holding.Holding.{Holding}
+use Rattle.tables.specs.Holding.{support_of, closure_of, holding_of, unheld}
 use Rattle.closed.specs.Families.{dead}
 use Rattle.closed.specs.Walks.{Exact}
 use Rattle.closed.specs.Closed.{Query, listed, clash, above, Clashing, Refuses, narrow_refusal, narrow_in, narrow_out}
-use Rattle.closed.proofs.Closing.{support_closure}
+use Rattle.closed.proofs.Closing.{closure_holds, support_closure}
 use Rattle.closed.proofs.Clashes.{clash_is}
 use Rattle.closed.proofs.Fitting.{narrowed_exact, alive_some, dead_none}
 use Rattle.closed.proofs.Narrowing.{dead_lives, narrow_by_closures, narrow_exact, narrow_out_below}
 use Rattle.finder.specs.declared.narrowing.Node.{Node}
 use Rattle.finder.specs.declared.tally.Tally.{Tally}
 use Rattle.finder.specs.Nodes.{node_of, holding_passes}
-use Rattle.finder.specs.Tallies.{no_holding, tally_of}
-use Rattle.finder.proofs.Tallying.{tally_with}
+use Rattle.finder.specs.Tallies.{no_holding, tally_besides}
+use Rattle.finder.proofs.Tallying.{besides_with, besides_skipped}
 
 abbrev made : ℕ → ℕ → ℕ → Node
 made ins outs support = record { ins = record { bits = ins }; outs = record { bits = outs }; support = support }
@@ -39,17 +43,17 @@ module _ (q : Query) (i o : ℕ) where
         let parts = or_parts _ (above q.table.width o) fair in
         below_from_part q.table.width i (part_fact i _ (not-false _ (or_parts _ (above q.table.width i) parts.0).1))
 
-    module _ (small : q.table.width ≤ most_marks) (parts : AllowsParts q.allowed) (tally : Tally) (is : tally ≡ tally_of q.table i) where
+    module _ (small : q.table.width ≤ most_marks) (parts : AllowsParts q.allowed) (tally : Tally) (is : tally ≡ tally_besides q.table i (either i o)) where
       own_is : holding_passes q o tally.own ≡ holding_passes q o (holding_of q.table i)
-      unfolding tally_of
+      unfolding tally_besides
       own_is = ap (λ t. holding_passes q o t.own) is
 
       own_closure : tally.own.closure.bits ≡ closure_of q.table i
-      unfolding tally_of
+      unfolding tally_besides
       own_closure = ap (λ t. t.own.closure.bits) is
 
       own_support : tally.own.support ≡ support_of q.table i
-      unfolding tally_of
+      unfolding tally_besides
       own_support = ap (λ t. t.own.support) is
 
       pub refused_dead : holding_passes q o tally.own ≡ false → narrow_refusal q i o ≡ Some (unplaced DeadEnd)
@@ -68,7 +72,7 @@ module _ (q : Query) (i o : ℕ) where
         accepted = let d = not_dead in rw (fair, d)
 
         pub narrowed_node : (ins outs support : ℕ) → ins ≡ tally.own.closure.bits → support ≡ tally.own.support
-            → outs ≡ picked (λ b. not (holding_passes q o (get_or tally.marks b no_holding))) q.table.width
+            → outs ≡ picked (λ b. not (has i b) && not (holding_passes q o (get_or tally.marks b no_holding))) q.table.width
             → made ins outs support ≡ node_of q i o
         narrowed_node ins outs support e s f =
             ap (λ x. made x outs support) (ins_is (e ∙ own_closure)) ∙ ap (λ x. made (narrow_in q i o) x support) (f ∙ outs_are)
@@ -80,11 +84,38 @@ module _ (q : Query) (i o : ℕ) where
             ins_is : ins ≡ closure_of q.table i → ins ≡ narrow_in q i o
             ins_is x = x ∙ by_closures.0
 
-            outs_are : picked (λ b. not (holding_passes q o (get_or tally.marks b no_holding))) q.table.width ≡ narrow_out q i o
+            -- a set whose closure has a mark that is put out does not pass
+            out_fails : (b : ℕ) (h : Holding) → has h.closure.bits b ≡ true → has o b ≡ true → holding_passes q o h ≡ false
+            out_fails b h e f = by (both h.closure.bits o == no_marks) refl
+              where
+                shared : has (both h.closure.bits o) b ≡ true
+                shared = has_and h.closure.bits o b ∙ rw (e, f) refl
+
+                by : (t : Bool) → (both h.closure.bits o == no_marks) ≡ t → holding_passes q o h ≡ false
+                by true z = absurd (both_ways (has (both h.closure.bits o) b) (ap (λ s. has s b) (eqb-true (both h.closure.bits o) no_marks z) ∙ has_none b) shared)
+                by false z = grind (arith, z)
+
+            -- what the tally has at a mark says whether a listed set fits with it, but for the marks that are put in, with which one does
+            same : (b : ℕ) → b < q.table.width → (x y : Bool) → has i b ≡ x → has o b ≡ y
+                → (not x && not (holding_passes q o (get_or tally.marks b no_holding))) ≡ not (holding_passes q o (holding_of q.table (with_bit i b)))
+            same b l true y e f = ap not (sym (ap (λ s. holding_passes q o (holding_of q.table s)) (part_antisym (with_bit i b) i (with_part i i b (part_refl i) e) (part_or_left i (2 ^ b))) ∙ sym own_is ∙ alive))
+            same b l false true e f =
+                let out : has (either i o) b ≡ true = has_or i o b ∙ rw (e, f) refl in
+                let skip : get_or tally.marks b no_holding ≡ unheld q.table.width = ap (λ t. get_or t.marks b no_holding) is ∙ besides_skipped q.table i (either i o) b (omega (arith, small)) out in
+                let there : has (closure_of q.table (with_bit i b)) b ≡ true =
+                part_has (with_bit i b) (closure_of q.table (with_bit i b)) b
+                (closure_holds q.table (with_bit i b) (or_lt q.table.width i (2 ^ b) in_below (pow_below b q.table.width l)))
+                (has_with i b b ∙ or_right (has i b) (eqb b b) (eq-eqb b b refl)) in
+                ap not (ap (holding_passes q o) skip ∙ out_fails b (unheld q.table.width) (has_all_below q.table.width b ∙ lt-ltb b q.table.width l) f ∙ sym (out_fails b (holding_of q.table (with_bit i b)) there f))
+            same b l false false e f =
+                let free : has (either i o) b ≡ false = has_or i o b ∙ rw (e, f) refl in
+                ap (λ h. not (holding_passes q o h)) (ap (λ t. get_or t.marks b no_holding) is ∙ besides_with q.table i (either i o) b (omega (arith, small)) free)
+
+            outs_are : picked (λ b. not (has i b) && not (holding_passes q o (get_or tally.marks b no_holding))) q.table.width ≡ narrow_out q i o
             outs_are =
-                picked_same (λ b. not (holding_passes q o (get_or tally.marks b no_holding)))
+                picked_same (λ b. not (has i b) && not (holding_passes q o (get_or tally.marks b no_holding)))
                 (λ b. not (holding_passes q o (holding_of q.table (with_bit i b)))) q.table.width
-                (λ b l. ap (λ h. not (holding_passes q o h)) (ap (λ t. get_or t.marks b no_holding) is ∙ tally_with q.table i b (omega (arith, small))))
+                (λ b l. same b l (has i b) (has o b) refl refl)
                 ∙ by_closures.1
 
 -- which tests failed where nothing is refused

@@ -2,7 +2,7 @@
 use Rattle.std.specs.Prelude.{◌≡◌, ℕ, ◌<◌, ◌≤◌, true, cond, List, map, slice_index_or}
 use Rattle.std.specs.List.{range_with_len}
 use Rattle.marks.specs.Numbers.{most_marks}
-use Rattle.marks.specs.Sets.{has, no_marks, with_bit}
+use Rattle.marks.specs.Sets.{has, no_marks, with_bit, minus}
 use Rattle.tables.specs.declared.holding.Holding.{Holding}
 use Rattle.tables.specs.Meaning.{Meaning}
 use Rattle.tables.specs.Holding.{held_by, holding_of, unheld, joined}
@@ -21,13 +21,17 @@ for_each_mark f = map f (range_with_len 0 most_marks)
 unfoldable pub tally_of : Meaning → ℕ → Tally
 tally_of m s = record { own = holding_of m s; marks = for_each_mark (λ b. holding_of m (with_bit s b)) }
 
--- a charge joins the record of each mark that its row has
-unfoldable pub joined_each : ℕ → List Holding → List Holding
-joined_each row marks = for_each_mark (λ b. cond (has row b) (joined row (slice_index_or marks b no_holding)) (slice_index_or marks b no_holding))
+-- the same but for the marks of `skipped`, each of which has the record of a set that no charge holds
+unfoldable pub tally_besides : Meaning → ℕ → ℕ → Tally
+tally_besides m s skipped = record { own = holding_of m s; marks = for_each_mark (λ b. cond (has skipped b) (unheld m.width) (holding_of m (with_bit s b))) }
 
--- a charge that holds the set joins its record and those of its marks
-abbrev pub noted : ℕ → ℕ → Tally → Tally
-noted s row t = cond (held_by s row) (record { own = joined row t.own; marks = joined_each row t.marks }) t
+-- a charge joins the records of some marks
+unfoldable pub joined_each : ℕ → ℕ → List Holding → List Holding
+joined_each some row marks = for_each_mark (λ b. cond (has some b) (joined row (slice_index_or marks b no_holding)) (slice_index_or marks b no_holding))
+
+-- a charge that holds the set joins its record and those of its marks that are not skipped
+abbrev pub noted : ℕ → ℕ → ℕ → Tally → Tally
+noted s skipped row t = cond (held_by s row) (record { own = joined row t.own; marks = joined_each (minus row skipped) row t.marks }) t
 
 -- What the tally of s says of marks above the width n, which no charge has: where s has one, or the added mark is one, the support is 0 and the closure all marks up to the width.
 pub record AboveWidth (n s : ℕ) (t : Tally) : Type 0 where

@@ -1,7 +1,7 @@
 // Narrowing a node to what all listed sets that fit it have in common.
-ghost use Rattle.std.specs.Prelude.{◌≡◌, not, IfOk, slice_index_or};
+ghost use Rattle.std.specs.Prelude.{◌≡◌, not, ◌&&◌, IfOk, slice_index_or};
 ghost use Rattle.marks.specs.Refusals.{Answers};
-ghost use Rattle.marks.specs.Sets.{picked};
+ghost use Rattle.marks.specs.Sets.{has, picked};
 ghost use Rattle.closed.specs.Closed.{query, listed, clash, ListLaws, Refuses, narrow_refusal};
 ghost use Rattle.closed.specs.Walks.{Exact};
 ghost use Rattle.finder.specs.Asked.{asked};
@@ -50,11 +50,12 @@ impl<T: Table, W: Limit> Query<T, W> {
             && holding.closure().intersection(outs).is_empty()
     }
 
-    // The marks up to the width with which no listed set fits.
-    fn excluded(&self, tally: &Tally, outs: MarkSet) -> MarkSet
-        ensures { result.bits ≡ picked (λ b. not (holding_passes (asked T.Table.meaning W.Limit.allowed self.now) outs.bits (slice_index_or tally.now.marks b no_holding))) (T.Table.meaning self.now.table).width }
+    // The marks up to the width with which no listed set fits. With a mark that is put in, the set that fits at all does.
+    fn excluded(&self, tally: &Tally, ins: MarkSet, outs: MarkSet) -> MarkSet
+        ensures { result.bits ≡ picked (λ b. not (has ins.bits b) && not (holding_passes (asked T.Table.meaning W.Limit.allowed self.now) outs.bits (slice_index_or tally.now.marks b no_holding))) (T.Table.meaning self.now.table).width }
     {
-        MarkSet::up_to(self.table.width()).filter(|mark| !self.wants(tally.with(mark), outs))
+        let all = MarkSet::up_to(self.table.width());
+        all.filter(|mark| !ins.holds(mark) && !self.wants(tally.with(mark), outs))
     }
 
     // Narrows the node with these marks put in and put out.
@@ -64,14 +65,14 @@ impl<T: Table, W: Limit> Query<T, W> {
         if clashes(self.table.width(), ins, outs) {
             return Err(Refusal::unplaced(Reason::Clash));
         }
-        let tally = Tally::of(&self.table, ins);
+        let tally = Tally::besides(&self.table, ins, ins.union(outs));
         let own = tally.own();
         if !self.wants(own, outs) {
             return Err(Refusal::unplaced(Reason::DeadEnd));
         }
         Ok(Node {
             ins: own.closure(),
-            outs: self.excluded(&tally, outs),
+            outs: self.excluded(&tally, ins, outs),
             support: own.support(),
         })
     }

@@ -2,6 +2,7 @@ use Rattle.std.proofs.Common.{Some, sym, ap, ◌∙◌}
 use Rattle.closed.specs.Closed.{clash}
 use Rattle.finder.specs.Asked.{asked}
 use Rattle.finder.specs.Nodes.{holding_passes}
+use Rattle.finder.specs.Tallies.{tally_besides}
 use Rattle.finder.proofs.Narrows.{refused_clash, refused_dead, accepted, narrowed_node}
 use Rattle.finder.proofs.narrowing.Query.narrow.Goals as goal
 
@@ -19,7 +20,7 @@ returns-then-not-wants g c =
     let i = c.args.ins.bits in
     let o = c.args.outs.bits in
     refused_dead q i o (ap (λ n. clash n i o) (sym c.width.ensures) ∙ sym c.clashes.ensures ∙ c.if-clashes.false)
-    (g.met.T.Table.proper c.args.self.now.table).wide.1 (g.met.W.Limit.parts c.args.self.now.limit) c.of-tally.result c.of-tally.ensures.value
+    (g.met.T.Table.proper c.args.self.now.table).wide.1 (g.met.W.Limit.parts c.args.self.now.limit) c.besides-tally.result (c.besides-tally.ensures ∙ ap (tally_besides q.table i) c.union.ensures)
     (ap (holding_passes q o) (sym c.own-own.ensures) ∙ sym c.wants.ensures ∙ c.if-not-wants.true)
     ∙ ap (λ r. Some r) (sym c.unplaced-then-not-wants.ensures)
 
@@ -28,11 +29,11 @@ returns g c =
     let q = asked g.T.Table.meaning g.W.Limit.allowed c.args.self.now in
     let i = c.args.ins.bits in
     let o = c.args.outs.bits in
-    let tally = c.of-tally.result in
+    let tally = c.besides-tally.result in
     let fair = ap (λ n. clash n i o) (sym c.width.ensures) ∙ sym c.clashes.ensures ∙ c.if-clashes.false in
     let small = (g.met.T.Table.proper c.args.self.now.table).wide.1 in
     let parts = g.met.W.Limit.parts c.args.self.now.limit in
-    let is = c.of-tally.ensures.value in
+    let is = c.besides-tally.ensures ∙ ap (tally_besides q.table i) c.union.ensures in
     let alive = ap (holding_passes q o) (sym c.own-own.ensures) ∙ sym c.wants.ensures ∙ c.if-not-wants.false in (
       accepted q i o fair small parts tally is alive,
       narrowed_node q i o fair small parts tally is alive c.closure.result.bits c.excluded.result.bits c.support.result

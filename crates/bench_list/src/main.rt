@@ -1,4 +1,4 @@
-// Times two long lists: of a short table, and of a long one. What they hold goes to standard output; how long they take, which varies, to standard error.
+// Times two lists: one of many sets over a short table, and one over as many charges as there can be. What they hold goes to standard output; how long they take, which varies, to standard error.
 #![tactic(auto)]
 
 use finder::whole_list;

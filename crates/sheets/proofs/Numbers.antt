@@ -1,15 +1,13 @@
 -- The number that digits write.
-use Rattle.std.proofs.Common.{◌≡◌, ℕ, ◌+◌, ◌-◌, ◌*◌, ◌<◌, ◌≤◌, Bool, true, false, ◌||◌, ◌==◌, None, List, [], ◌∷◌, length, get_or, take, drop, fold, refl, subst, rules, arith}
+use Rattle.std.proofs.Common.{◌≡◌, ℕ, ◌+◌, ◌-◌, ◌*◌, ◌<◌, ◌≤◌, Bool, true, false, ◌||◌, ◌==◌, None, List, [], ◌∷◌, length, get_or, fold, refl, rules, arith}
 use Rattle.std.specs.Str.{all_ascii_digits}
-use Rattle.std.proofs.lemmas.List.{take-append-drop}
-use Rattle.std.proofs.lemmas.List.Sums.{fold-append, fold_more}
 use Rattle.std.proofs.lemmas.Str.Parse.{IsNumeralModel, numerals_by_fold, tells_all_ascii_digits, digit_at}
 use Rattle.std.proofs.lemmas.Bool.{ne_eqb, le-ltb, lt-ltb, le-leb}
 use Rattle.marks.specs.Refusals.{range_refusal}
 use Rattle.sheets.specs.Reading.{worth, is_bad_number}
 
 -- a digit more
-abbrev step : ℕ → ℕ → ℕ
+abbrev pub step : ℕ → ℕ → ℕ
 step n d = n * 10 + (d - 48)
 
 pub own : IsNumeralModel (λ ds. all_ascii_digits ds ≡ true) worth
@@ -22,14 +20,6 @@ in_range ds i all h = let r = digit_at ds i (own.to ds all) h in (omega (arith, 
 grows : (n : ℕ) (ds : List ℕ) → n ≤ fold step n ds
 grows n [] = omega arith
 grows n (d ∷ ds) = omega (arith, grows (n * 10 + (d - 48)) ds)
-
-pub worth_more : (ds : List ℕ) (i : ℕ) → i < length ds → worth (take (i + 1) ds) ≡ worth (take i ds) * 10 + (get_or ds i 0 - 48)
-worth_more ds i h = fold_more step 0 ds i 0 h
-
-pub worth_front : (ds : List ℕ) (i : ℕ) → worth (take i ds) ≤ worth ds
-worth_front ds i =
-    subst (λ l. worth (take i ds) ≤ worth l) (take-append-drop i ds)
-    (rw (fold-append step 0 (take i ds) (drop i ds)) (grows (worth (take i ds)) (drop i ds)))
 
 -- a number that does not start with 0 is not 0
 pub worth_some : (ds : List ℕ) → 48 < get_or ds 0 0 → 0 < worth ds

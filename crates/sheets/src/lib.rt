@@ -1,6 +1,7 @@
 // Sheets: charge tables as text.
 #![tactic(auto)]
 
+mod digits;
 mod line;
 pub mod order;
 pub mod piece;

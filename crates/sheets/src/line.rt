@@ -6,6 +6,7 @@ ghost use Rattle.marks.specs.Sets.{no_marks};
 ghost use Rattle.sheets.specs.Reading.{worth, is_bad_number, number_fault};
 ghost use Rattle.sheets.specs.Lines.{is_nothing, is_blank, left_of, fault_at, HasAdded, HasParted};
 
+use crate::digits::worth;
 use crate::piece::Place;
 use marks::{Mark, MarkSet, Reason, Refusal, Width};
 
@@ -25,13 +26,6 @@ pub(crate) struct Line {
     left: Left,
 }
 
-// A refusal at a place of the text.
-pub(crate) fn refused(reason: Reason, place: Place) -> Refusal
-    ensures { result ≡ fault_at place reason }
-{
-    Refusal::at_line(reason, place.line, place.column)
-}
-
 // The mark that digits write, unless they start with 0 or exceed the width.
 fn mark(digits: &[u8], width: Width) -> Option<Mark>
     requires some { 0 < length digits.now }
@@ -41,14 +35,8 @@ fn mark(digits: &[u8], width: Width) -> Option<Mark>
     if digits[0] == b'0' {
         return None;
     }
-    let mut number = 0;
-    for digit in digits {
-        number = number * 10 + u32::from(*digit - b'0');
-        if number > width.get() {
-            return None;
-        }
-    }
-    Mark::new(u64::from(number)).ok()
+    let mark = Mark::new(u64::from(worth(digits))).ok()?;
+    (mark.get() <= width.get()).then_some(mark)
 }
 
 impl Left {
@@ -88,11 +76,9 @@ impl Line {
         requires all { all_ascii_digits digits.now ≡ true }
         ensures { Answers (number_fault (fault_at place) width.number (left_of self.old.left) digits.now) (λ _. HasAdded self.old self.new (worth digits.now)) result }
     {
-        let Some(mark) = mark(digits, width) else {
-            return Err(refused(Reason::BadNumber, place));
-        };
+        let mark = mark(digits, width).ok_or_else(|| place.refusal(Reason::BadNumber))?;
         if !self.left.is_below(mark) {
-            return Err(refused(Reason::BadRise, place));
+            return Err(place.refusal(Reason::BadRise));
         }
         self.row = self.row.with(mark);
         self.left = Left::Mark(mark);
@@ -108,7 +94,7 @@ impl Line {
                 self.left = Left::Blank(mark);
                 Ok(())
             }
-            _ => Err(refused(Reason::BadBlank, place)),
+            _ => Err(place.refusal(Reason::BadBlank)),
         }
     }
 }

@@ -1,12 +1,12 @@
 // Reading the order line, which stands before a sheet.
 ghost use Rattle.std.specs.Prelude.{◌≡◌, ◌+◌, ◌<◌, ◌≤◌, length, drop, IfOk};
-ghost use Rattle.std.specs.Str.Parse.{AllDigits};
 ghost use Rattle.marks.specs.declared.refusal.Reason.TheVariants.{Range};
 ghost use Rattle.marks.specs.Refusals.{Answers, placed_at_two};
-ghost use Rattle.sheets.specs.Digits.{most_digits, leading_digits};
+ghost use Rattle.sheets.specs.Digits.{leading_digits};
 ghost use Rattle.sheets.specs.Reading.{worth};
 ghost use Rattle.sheets.specs.OrderLines.{number_end, end_refusal, bounds_refusal, order_refusal, Says, ReadsRightLines};
 
+use crate::digits::worth;
 use marks::{Charge, MOST_CHARGES, MOST_MARKS, Number, Reason, Refusal, Support, Width};
 
 // A number of an order line has no more digits than this.
@@ -76,19 +76,6 @@ fn leading_digits(text: &[u8]) -> &[u8]
         .take_while(|byte| byte.is_ascii_digit())
         .count();
     &text[0..size]
-}
-
-// The number that digits write.
-fn worth(digits: &[u8]) -> u32
-    requires digits { AllDigits 10 digits.now }
-    requires few { length digits.now ≤ most_digits }
-    ensures { result ≡ worth digits.now }
-{
-    let mut number = 0;
-    for digit in digits {
-        number = number * 10 + u32::from(*digit - b'0');
-    }
-    number
 }
 
 // The numbers of an order line, taken from the text one after another.

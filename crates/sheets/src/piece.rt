@@ -1,10 +1,23 @@
 // The pieces of a sheet.
+ghost use Rattle.std.specs.Prelude.{◌≡◌};
+ghost use Rattle.sheets.specs.Lines.{fault_at};
+
+use marks::{Reason, Refusal};
 
 /// A line and a column, both counted from 1.
 #[derive(Clone, Copy, PartialEq, Eq, Debug)]
 pub struct Place {
     pub line: u64,
     pub column: u64,
+}
+
+impl Place {
+    // A refusal at this place.
+    pub(crate) fn refusal(self, reason: Reason) -> Refusal
+        ensures { result ≡ fault_at self reason }
+    {
+        Refusal::at_line(reason, self.line, self.column)
+    }
 }
 
 /// A piece of a sheet, with the place of its first byte. A number lends its digits from the text.

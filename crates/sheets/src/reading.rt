@@ -10,7 +10,7 @@ ghost use Rattle.sheets.specs.Reading.{charge_fault, text_reading, reading, pack
 ghost use Rattle.sheets.specs.declared.line.Left.{Left};
 
 use crate::MOST_BYTES;
-use crate::line::{Line, refused};
+use crate::line::Line;
 use crate::piece::{Piece, Place};
 use crate::reader::Reader;
 use marks::{MOST_CHARGES, Reason, Refusal, Width};
@@ -65,12 +65,12 @@ impl Sheet {
         ensures width { self.new.width ≡ self.old.width }
     {
         if self.count >= MOST_CHARGES as usize {
-            return Err(refused(Reason::TooMany, place));
+            return Err(place.refusal(Reason::TooMany));
         }
         let start = ROW_BYTES * self.count;
         let end = start + ROW_BYTES;
         if memory.len() < end {
-            return Err(refused(Reason::NoPlace, place));
+            return Err(place.refusal(Reason::NoPlace));
         }
         memory[start..end].copy_from_slice(&self.line.row.bits().to_le_bytes());
         self.count += 1;
@@ -90,7 +90,7 @@ fn read_text(text: &[u8], width: Width, memory: &mut [u8]) -> Result<usize, Refu
         sheet.take(piece, reader.is_before_line_end(), memory)?;
     }
     if sheet.line.is_begun() {
-        return Err(refused(Reason::NoLineEnd, reader.place()));
+        return Err(reader.place().refusal(Reason::NoLineEnd));
     }
     Ok(sheet.count)
 }

@@ -94,7 +94,7 @@ impl<'a> Reader<'a> {
                 self.pass_line_end();
                 Ok(Some(Piece::LineEnd(place)))
             }
-            _ => Err(Refusal::at_line(Reason::BadByte, place.line, place.column)),
+            _ => Err(place.refusal(Reason::BadByte)),
         }
     }
 

@@ -1,28 +1,24 @@
-use Rattle.std.proofs.Common.{◌≡◌, ◌+◌, None, get_or, ap, ◌∙◌, rules, arith}
-use Rattle.std.proofs.lemmas.List.{take_all}
-use Rattle.marks.specs.Refusals.{range_refusal}
-use Rattle.sheets.specs.Reading.{worth}
-use Rattle.sheets.proofs.Numbers.{in_range, worth_more, worth_front, worth_some, good_number, big_number, in_due}
+use Rattle.std.proofs.Common.{◌≡◌, ℕ, ◌<◌, get_or, None, Ok, Err, Result, sym, inl, inr, rules, arith}
+use Rattle.std.proofs.lemmas.Bool.{cases_lt}
+use Rattle.std.specs.Result.{result_ok}
+use Rattle.marks.specs.declared.refusal.Refusal.{Refusal}
+use Rattle.marks.specs.Kinds.{Mark}
+use Rattle.marks.specs.Refusals.{Answers, range_refusal}
+use Rattle.sheets.proofs.Numbers.{in_range, worth_some, big_number, in_due}
 use Rattle.sheets.proofs.line.mark.Goals as goal
 
-pub overflow_sub-digit : goal.overflow_sub-digit
-overflow_sub-digit c = omega (arith, (in_range c.args.digits.now c.loop-digit.digit-index c.requires.all c.loop-digit-test.true).0)
+-- what is no mark, and not 0, is too great
+too_great : (number : ℕ) (r : Result Mark Refusal) → Answers (range_refusal 32 number) (λ m. m.number ≡ number) r → result_ok r ≡ None → 0 < number → 32 < number
+too_great number (Ok m) a none some = absurd (cc)
+too_great number (Err refusal) a none some =
+    elim (cases_lt 32 number) [ inl high ↦ high | inr low ↦ (let due = in_due number some low in absurd (cc)) ]
 
-pub returns-then-number-get : goal.returns-then-number-get
-returns-then-number-get c =
+pub returns-in_err-mark : goal.returns-in_err-mark
+returns-in_err-mark c =
     let ds = c.args.digits.now in
-    let more = worth_more ds c.loop-digit.digit-index c.loop-digit-test.true in
-    let front = worth_front ds (c.loop-digit.digit-index + 1) in
-    big_number c.args.width.number ds (omega (arith, c.if-number-get.true, c.get.ensures.value, c.from.ensures, c.loop-digit.invariant.number))
-
-pub returns : goal.returns
-returns c =
-    let ds = c.args.digits.now in
-    let number : c.loop-digit.number ≡ worth ds = c.loop-digit.invariant.number ∙ ap worth (take_all c.loop-digit.digit-index ds c.loop-digit-test.false) in
     let first = in_range ds 0 c.requires.all c.requires.some in
     let other : get_or ds 0 0 ≡ 48 → ⊥ = search rules in
     let some = worth_some ds (omega (arith, other)) in
-    let low = c.loop-digit.invariant.low in
-    let good = good_number c.args.width.number ds other (omega arith) in
-    let due : range_refusal 32 c.from-2.result ≡ None = in_due c.from-2.result (omega (arith, c.from-2.ensures)) (omega (arith, c.from-2.ensures, c.args.width.range)) in
+    let high = too_great c.from.result c.new.result c.new.ensures (sym c.in_err-mark.ensures.value) (omega (arith, c.from.ensures, c.worth.ensures)) in
+    let big = big_number c.args.width.number ds (omega (arith, c.from.ensures, c.worth.ensures)) in
     grind arith

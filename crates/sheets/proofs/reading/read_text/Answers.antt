@@ -87,13 +87,13 @@ at_end c =
     let cut : Cut c.loop-piece.reader.text.now c.loop-piece.reader.position c.next.new.self.position (Ok None) = rw c.in_default.is at (c.in_ok-piece.ensures.cut) in
     subst (λ t. Cut t c.loop-piece.reader.position c.next.new.self.position (Ok None)) c.loop-piece.invariant.text cut
 
-unended : (c : goal.After-refused) → (drop c.loop-piece.reader.position c.args.text.now ≡ []) × (c.next.new.self.position ≡ c.loop-piece.reader.position)
-    → Stopped c.args.width.number c.args.text.now c.args.memory.now c.loop-piece.memory c.refused.result
+unended : (c : goal.After-refusal) → (drop c.loop-piece.reader.position c.args.text.now ≡ []) × (c.next.new.self.position ≡ c.loop-piece.reader.position)
+    → Stopped c.args.width.number c.args.text.now c.args.memory.now c.loop-piece.memory c.refusal.result
 unended c e =
     let here : StandsAt c.args.text.now c.next.new.self.position c.place.result =
     subst (λ t. StandsAt t c.next.new.self.position c.place.result) (c.next.ensures.text ∙ c.loop-piece.invariant.text) c.place.ensures
     in
-    subst (Stopped c.args.width.number c.args.text.now c.args.memory.now c.loop-piece.memory) (sym c.refused.ensures)
+    subst (Stopped c.args.width.number c.args.text.now c.args.memory.now c.loop-piece.memory) (sym c.refusal.ensures)
     (unfinished c.loop-piece.invariant.passed c.place.result e.0 (subst (λ k. StandsAt c.args.text.now k c.place.result) e.1 here)
     (not-true (is_nothing c.loop-piece.sheet.line.left) (sym c.if-is_begun.ensures)))
 

@@ -1,10 +1,12 @@
-use Rattle.std.proofs.Common.{length, sym, subst, ap, arith}
-use Rattle.std.specs.Str.Parse.{AllDigits}
-use Rattle.sheets.proofs.Numerals.{leading, few_leading}
+use Rattle.std.proofs.Common.{◌≡◌, ◌^◌, ◌<◌, sym, subst, arith}
+use Rattle.std.proofs.lemmas.Grind.{common_steps}
+use Rattle.sheets.specs.Digits.{most_digits}
+use Rattle.sheets.specs.Reading.{worth}
+use Rattle.sheets.proofs.Numerals.{small_number}
 use Rattle.sheets.proofs.order.Numbers.take.Goals as goal
 
-pub worth-requires-clause-digits : goal.worth-requires-clause-digits
-worth-requires-clause-digits c = subst (AllDigits 10) (sym c.leading_digits-digits.ensures) (leading _).all
-
-pub worth-requires-clause-few : goal.worth-requires-clause-few
-worth-requires-clause-few c = omega (arith, ap length c.leading_digits-digits.ensures, few_leading)
+pub returns-in-Some-clause-answer : goal.returns-in-Some-clause-answer
+returns-in-Some-clause-answer c =
+    let small = subst (λ digits. worth digits < 10 ^ most_digits) (sym c.leading_digits-digits.ensures) (small_number _) in
+    let value : c.worth.result ≡ worth c.leading_digits-digits.result.now = omega (arith, small) in
+    grind (arith, common_steps)

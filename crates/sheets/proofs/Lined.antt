@@ -1,15 +1,18 @@
 -- The text of rows, mark by mark and line by line.
 use Rattle.std.proofs.Common.{◌≡◌, ℕ, zero, suc, ◌+◌, ◌-◌, ◌*◌, ◌<◌, ◌≤◌, Bool, true, false, cond, List, [], ◌∷◌, ◌++◌, map, length, take, drop, get_or, codes, decimal, flat_map, sym, refl, ap, ◌∙◌, append-nil, append_assoc, arith}
 use Rattle.std.proofs.lemmas.Fmt.{length-decimal-le, decimal_nonempty}
-use Rattle.std.proofs.lemmas.List.{length-append, length-drop, length-take, take_at, take_more, take-append-drop}
-use Rattle.std.proofs.lemmas.List.Concat.{flat_map-append}
+use Rattle.std.proofs.lemmas.List.{length-append, length-drop, take_at, take_more, take-append-drop}
+use Rattle.std.proofs.lemmas.List.Concat.{flat_map-append, length-flat_map}
+use Rattle.std.proofs.lemmas.List.Folds.{flat_map-map}
+use Rattle.std.proofs.lemmas.List.FromFn.{fill_by_all, length-map-range_with_len, get_or-map-range_with_len}
 use Rattle.std.proofs.lemmas.Slice.{drop-append-drop}
+use Rattle.std.specs.List.{range_with_len, sum_by}
 use Rattle.marks.specs.Memory.{put_in_front}
 use Rattle.marks.specs.Numbers.{most_marks, bit_of}
 use Rattle.marks.specs.Sets.{has, bits_below}
 use Rattle.marks.proofs.Enumerated.{bits_start, bits_more}
 use Rattle.tables.specs.Holding.{ending_after}
-use Rattle.tables.specs.Meaning.{Meaning, Proper, count_of, row_of}
+use Rattle.tables.specs.Meaning.{Meaning, count_of, row_of}
 use Rattle.sheets.specs.Rendering.{marks_of, spaced_marks, row_text, render}
 
 -- ---- the marks of a row
@@ -97,10 +100,6 @@ next_room {n = n} {written = written} rest some small p e =
 pub line_short : (row : ℕ) → length (row_text row) ≤ 96
 line_short row = omega (arith, length-append (spaced_marks (marks_of row)) (codes "\n"), marks_short row)
 
-pub render_short : (rows : List ℕ) → length (render rows) ≤ 96 * length rows
-render_short [] = omega arith
-render_short (row ∷ rows) = omega (arith, length-append (row_text row) (render rows), line_short row, render_short rows)
-
 pub render_more : (rows : List ℕ) (k : ℕ) → k < length rows → render (take (k + 1) rows) ≡ render (take k rows) ++ row_text (get_or rows k 0)
 render_more rows k h =
     ap render (take_more rows k 0 h) ∙ flat_map-append row_text (take k rows) (get_or rows k 0 ∷ [])
@@ -136,9 +135,6 @@ module _ (m : Meaning) where
   pub size_more : (k : ℕ) → k < count_of m → length (render (ending_after k m).rows) + length (row_text (get_or m.rows k 0)) ≡ length (render (ending_after (k + 1) m).rows)
   size_more k h = sym (ap length (render_more m.rows k h) ∙ length-append (render (take k m.rows)) (row_text (get_or m.rows k 0)))
 
-  pub some_short : (k : ℕ) → Proper m → length (render (ending_after k m).rows) ≤ 6291456
-  some_short k proper = omega (arith, render_short (take k m.rows), length-take k m.rows, proper.few)
-
 -- a line more behind those that stand in front, and where it ends
 abbrev pub line_put : ℕ → List ℕ × ℕ → List ℕ × ℕ
 line_put row written = (take written.1 written.0 ++ (row_text row ++ drop (written.1 + length (row_text row)) written.0), written.1 + length (row_text row))
@@ -170,3 +166,21 @@ module _ (old : List ℕ) where
         render_part m.rows k,
         in_front_size (render (take k m.rows)) old (omega (arith, render_part m.rows k)),
       )
+
+-- ---- the size of a sheet, line by line
+
+module _ (m : Meaning) where
+  -- the charges of a table, by number
+  abbrev pub charges_of : List ℕ
+  charges_of = range_with_len 1 (count_of m)
+
+  rows_in_turn : map (row_of m) charges_of ≡ m.rows
+  rows_in_turn =
+      fill_by_all (λ k. get_or m.rows k 0) (map (row_of m) charges_of) (count_of m) 0 (length-map-range_with_len (row_of m) 1 (count_of m))
+      (λ k h. let place : k + 1 - 1 ≡ k = omega arith in get_or-map-range_with_len (row_of m) 1 (count_of m) k (k + 1) 0 h (omega arith) ∙ ap (λ i. get_or m.rows i 0) place)
+      ∙ sym (fill_by_all (λ k. get_or m.rows k 0) m.rows (count_of m) 0 refl (λ k h. refl))
+
+  pub lines_summed : sum_by (λ charge. length (row_text (row_of m charge))) charges_of ≡ length (render m.rows)
+  lines_summed =
+      sym (length-flat_map (λ charge. row_text (row_of m charge)) charges_of) ∙ ap length (sym (flat_map-map row_text (row_of m) charges_of))
+      ∙ ap (λ rows. length (render rows)) rows_in_turn

@@ -67,6 +67,7 @@ impl Sheet {
         if self.count >= MOST_CHARGES as usize {
             return Err(place.refusal(Reason::TooMany));
         }
+        // By offset: of memory that is lent by `get_mut`, or as chunks, no proof learns what it then holds.
         let start = ROW_BYTES * self.count;
         let end = start + ROW_BYTES;
         if memory.len() < end {

@@ -37,7 +37,7 @@ fn text_of_marks(row: MarkSet) -> Text
     };
     add_mark(&mut text, first);
     for mark in marks {
-        text.push_str(" ");
+        text.push(' ');
         add_mark(&mut text, mark);
     }
     text
@@ -49,7 +49,7 @@ fn line_of(row: MarkSet) -> Text
     ensures size { length result.bytes ≤ LONGEST }
 {
     let mut line = text_of_marks(row);
-    line.push_str("\n");
+    line.push('\n');
     line
 }
 
@@ -57,11 +57,9 @@ fn line_of(row: MarkSet) -> Text
 fn sheet_size<T: Table>(table: &T) -> usize
     ensures { result ≡ length (render (T.Table.meaning table.now).rows) }
 {
-    let mut size = 0;
-    for charge in Charge::up_to(table.count()) {
-        size += line_of(table.row(charge)).len();
-    }
-    size
+    Charge::up_to(table.count())
+        .map(|charge| line_of(table.row(charge)).len())
+        .sum()
 }
 
 // Writes a line into a text from a place on, and answers the place after it.
@@ -71,7 +69,7 @@ fn put(line: &Text, text: &mut [u8], from: usize) -> usize
     ensures text { text.new ≡ take from text.old ++ (line.now.bytes ++ drop (from + length line.now.bytes) text.old) }
 {
     let end = from + line.len();
-    text[from..end].copy_from_slice(line.as_str().as_bytes());
+    text[from..end].copy_from_slice(line.as_bytes());
     end
 }
 

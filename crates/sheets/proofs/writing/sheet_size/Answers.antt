@@ -1,22 +1,44 @@
-use Rattle.std.proofs.Common.{◌+◌, length, refl, ap, ◌∙◌, arith}
-use Rattle.tables.proofs.Passing.{passing_start, passing_more}
-use Rattle.sheets.specs.Rendering.{row_text, render}
-use Rattle.sheets.proofs.Lined.{some_short, size_more}
+use Rattle.std.proofs.Common.{◌≡◌, ℕ, ◌+◌, ◌-◌, length, min, ap₂, ◌∙◌, rules, arith}
+use Rattle.std.proofs.lemmas.Iterator.{YieldsList, YieldsList-from_map}
+use Rattle.std.proofs.lemmas.Iterator.Consumers.{YieldsList-from_first, sum_by_from_yields_List}
+use Rattle.std.proofs.lemmas.Iterator.Adapters.{at_most_from_yields_List, fits_from_length}
+use Rattle.std.proofs.lemmas.List.FromFn.{length-range_with_len}
+use Rattle.std.specs.Iterator.{YieldsFirstBy}
+use Rattle.std.specs.List.{range_with_len}
+use borrow.Author.Tests.{tests}
+use Rattle.marks.specs.declared.numbers.charge.Charges.{Charges}
+use Rattle.marks.specs.Kinds.{Charge}
+use Rattle.marks.specs.Numbers.{most_charges}
+use Rattle.tables.proofs.Passing.{to_come}
+use Rattle.tables.specs.Meaning.{Meaning, Proper, count_of, row_of}
+use Rattle.sheets.specs.Rendering.{row_text}
+use Rattle.sheets.proofs.Lined.{charges_of, lines_summed}
 use Rattle.sheets.proofs.writing.sheet_size.Goals as goal
 
-pub loop-charge-init : goal.loop-charge-init
-loop-charge-init g c =
-    let m = g.T.Table.meaning c.args.table.now in
-    passing_start (λ m. length (render m.rows)) m (g.met.T.Table.proper c.args.table.now) c.count.result c.count.ensures c.into_iter-charge-iterator.result (cc, cc) 0 refl
+abbrev number : Charge → ℕ
+number charge = charge.number
 
-pub overflow_add-size : goal.overflow_add-size
-overflow_add-size g c =
-    let m = g.T.Table.meaning c.args.table.now in
-    omega (arith, some_short m (length c.loop-charge.yielded) (g.met.T.Table.proper c.args.table.now), c.loop-charge.invariant.so_far, c.line_of.ensures.size, c.len-size.ensures)
+-- the charges that come are those of the table
+all_come : (m : Meaning) → Proper m → (n : ℕ) → n ≡ count_of m → (charges : Charges) → charges.passed ≡ 0 → charges.count ≡ min n most_charges
+    → YieldsList (YieldsFirstBy number to_come) number charges (charges_of m)
+all_come m proper n whole charges none all =
+    let first : charges.passed + 1 ≡ 1 = omega arith in
+    let many : charges.count - charges.passed ≡ count_of m = omega (arith, proper.few) in
+    YieldsList-from_first number to_come (charges_of m) (ap₂ range_with_len first many)
 
-pub loop-charge-preserved : goal.loop-charge-preserved
-loop-charge-preserved g c =
+pub sum-requires-clause-fits : goal.sum-requires-clause-fits
+sum-requires-clause-fits g c =
     let m = g.T.Table.meaning c.args.table.now in
-    passing_more (λ m. length (render m.rows)) m (λ row size. size + length (row_text row)) (size_more m)
-    c.loop-charge.yielded c.loop-charge.charge-iterator c.next.new.self c.in-Some.charge c.in-Some.ensures.steps c.loop-charge.size _ c.loop-charge.invariant
-    (ap (λ n. c.loop-charge.size + n) (c.len-size.ensures.value ∙ ap length (c.line_of.ensures.value ∙ ap row_text c.row.ensures)))
+    let proper = g.met.T.Table.proper c.args.table.now in
+    fits_from_length _ _ most_charges _
+    (at_most_from_yields_List (all_come m proper c.count.result c.count.ensures c.map.result.iter (cc) (cc)) (omega (arith, length-range_with_len 1 (count_of m), proper.few)))
+    c.map.ensures.closure (omega arith) (λ x r q k. search (rules, tests))
+
+pub returns : goal.returns
+returns g c =
+    let m = g.T.Table.meaning c.args.table.now in
+    let proper = g.met.T.Table.proper c.args.table.now in
+    sum_by_from_yields_List (λ charge. length (row_text (row_of m charge))) (charges_of m) c.map.result _ c.sum.ensures.ran
+    (YieldsList-from_map _ (λ charge. length (row_text (row_of m charge))) (all_come m proper c.count.result c.count.ensures c.map.result.iter (cc) (cc))
+    c.map.ensures.closure (λ x r q k. search (rules, tests)))
+    ∙ lines_summed m

@@ -16,11 +16,13 @@ add_mark-requires-in-loop-mark c =
     omega (
       arith,
       next_room c.next-in-loop-mark.new.self.rest.bits (omega arith) (omega arith) c.loop-mark.invariant c.in-Some-mark.ensures.steps,
-      ap length c.push_str.ensures.bytes,
+      ap length (c.push.ensures.ascii (omega arith)),
       length-append c.loop-mark.text.bytes (codes " "),
     )
 
 pub loop-mark-preserved : goal.loop-mark-preserved
 loop-mark-preserved c =
-    let written : c.add_mark-in-loop-mark.new.text.bytes ≡ (c.loop-mark.text.bytes ++ codes " ") ++ decimal c.in-Some-mark.mark.number = cc in
+    let written : c.add_mark-in-loop-mark.new.text.bytes ≡ (c.loop-mark.text.bytes ++ codes " ") ++ decimal c.in-Some-mark.mark.number =
+    c.add_mark-in-loop-mark.ensures ∙ ap (λ (l : List ℕ). l ++ decimal c.in-Some-mark.mark.number) (c.push.ensures.ascii (omega arith))
+    in
     rw written (next_mark (omega arith) c.loop-mark.invariant c.in-Some-mark.ensures.steps)

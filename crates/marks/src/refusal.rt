@@ -2,6 +2,9 @@
 ghost use Rattle.std.specs.Prelude.{◌≡◌, ◌==◌};
 ghost use Rattle.marks.specs.Refusals.{number_of, placed_at_two, placed_at, unplaced};
 
+use std::error::Error;
+use std::fmt;
+
 /// The reasons for a refusal, each with the number by which users know it.
 #[derive(Debug, Clone, Copy, PartialEq, Eq)]
 pub enum Reason {
@@ -103,3 +106,14 @@ impl Refusal {
         self.second
     }
 }
+
+// Shown by its number, as in the line that the program prints for it.
+impl fmt::Display for Refusal {
+    fn fmt<W: fmt::Write>(&self, f: &mut fmt::Formatter<W>) -> fmt::Result {
+        let number = self.number();
+        let (first, second) = (self.first, self.second);
+        write!(f, "fault {number} line {first} column {second}")
+    }
+}
+
+impl Error for Refusal {}

@@ -5,37 +5,19 @@ ghost use Rattle.std.specs.Prelude.{◌≡◌, ◌*◌, length, IfOk};
 ghost use Rattle.marks.specs.Numbers.{most_charges};
 ghost use Rattle.tables.specs.Packed.{row_bytes};
 
+use anyhow::Result;
 use finder::{Tally, narrow};
 use limits::Size;
-use marks::{MOST_CHARGES, MOST_MARKS, MarkSet, Refusal, Support, Width};
-use std::alloc::Global;
-use std::io;
+use marks::{MOST_CHARGES, MOST_MARKS, MarkSet, Support, Width};
+use std::alloc::{AllocError, Global};
 use std::time::Instant;
 use tables::{Columns, Packed, Table, turn};
 
-// Why the program ends early.
-#[derive(Debug, Drop)]
-enum Fault {
-    Refused(Refusal),
-    Failed(io::Error),
-}
-
-impl From<Refusal> for Fault {
-    fn from(refusal: Refusal) -> Fault {
-        Fault::Refused(refusal)
-    }
-}
-
-impl From<io::Error> for Fault {
-    fn from(error: io::Error) -> Fault {
-        Fault::Failed(error)
-    }
-}
-
 // The bytes of the longest packed table: its rows are all unlike, and have about half of the marks each.
-fn rows(heap: Global) -> io::Result<Vec<u8>>
+fn rows(heap: Global) -> Result<Vec<u8>, AllocError>
     ensures { IfOk result (λ bytes. length bytes.items ≡ row_bytes * most_charges) }
 {
+    // By a loop, whose invariant says how many bytes there are: after a `flat_map` that takes a longer proof.
     let mut bytes: Vec<u8> = Vec::new(heap);
     for number in 0..MOST_CHARGES {
         let row = number.wrapping_mul(2_654_435_761);
@@ -45,15 +27,15 @@ fn rows(heap: Global) -> io::Result<Vec<u8>>
 }
 
 // Words of the longest and widest columns, to be filled: 1,024 for each of 32 marks.
-fn words(heap: Global) -> io::Result<Vec<u64>>
+fn words(heap: Global) -> Result<Vec<u64>, AllocError>
     ensures { IfOk result (λ words. length words.items ≡ 32_768) }
 {
-    Ok(vec![in heap; 0; 32_768]?)
+    vec![in heap; 0; 32_768]
 }
 
 // Tallies the empty set and narrows the root, so that every charge counts. A mark is put out where fewer than half of the charges hold it. What is found is proved by the contracts of `Tally::of` and
 // `narrow`; no contract can say what is printed, nor how long a call takes.
-fn measure<T: Table>(rt: &HostRuntime, name: &str, table: &T) -> Result<(), Fault> {
+fn measure<T: Table>(rt: &HostRuntime, name: &str, table: &T) -> Result<()> {
     let half = Support::new(u64::from(MOST_CHARGES / 2))?;
     let none = MarkSet::empty();
     let start = Instant::now(rt)?;
@@ -74,7 +56,7 @@ fn measure<T: Table>(rt: &HostRuntime, name: &str, table: &T) -> Result<(), Faul
     Ok(())
 }
 
-fn main(rt: HostRuntime) -> Result<(), Fault> {
+fn main(rt: HostRuntime) -> Result<()> {
     let width = Width::new(u64::from(MOST_MARKS))?;
     let bytes = rows(rt.alloc())?;
     let packed = Packed::new(bytes.as_slice(), width)?;

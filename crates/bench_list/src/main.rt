@@ -1,52 +1,25 @@
 // Times two lists: one of many sets over a short table, and one over as many charges as there can be. What they hold goes to standard output; how long they take, which varies, to standard error.
 #![tactic(auto)]
 
+use anyhow::Result;
 use finder::whole_list;
 use limits::Size;
-use marks::{MOST_CHARGES, MOST_MARKS, MarkSet, Refusal, Support, Width};
+use marks::{MOST_CHARGES, MOST_MARKS, MarkSet, Support, Width};
 use std::alloc::{AllocError, Global};
-use std::io;
 use std::time::Instant;
 use tables::Packed;
-
-// Why the program ends early.
-#[derive(Debug, Drop)]
-enum Fault {
-    Refused(Refusal),
-    Failed(io::Error),
-}
-
-impl From<Refusal> for Fault {
-    fn from(refusal: Refusal) -> Fault {
-        Fault::Refused(refusal)
-    }
-}
-
-impl From<io::Error> for Fault {
-    fn from(error: io::Error) -> Fault {
-        Fault::Failed(error)
-    }
-}
-
-impl From<AllocError> for Fault {
-    fn from(error: AllocError) -> Fault {
-        Fault::Failed(error.into())
-    }
-}
 
 // The bytes of so many charges that are all unlike, and have about half of the marks each.
 fn scattered(heap: Global, count: u32, width: Width) -> Result<Vec<u8>, AllocError> {
     let all = MarkSet::up_to(width);
-    let mut bytes: Vec<u8> = Vec::new(heap);
-    for number in 0..count {
-        let row = MarkSet::from_bits(number.wrapping_mul(2_654_435_761));
-        bytes.extend_from_slice(&row.intersection(all).bits().to_le_bytes())?;
-    }
-    Ok(bytes)
+    (0..count)
+        .map(|number| MarkSet::from_bits(number.wrapping_mul(2_654_435_761)))
+        .flat_map(|row| row.intersection(all).bits().to_le_bytes())
+        .collect(heap)
 }
 
 // Lists the closed sets of a table that at least so many of its charges hold.
-fn measure(rt: &HostRuntime, name: &str, table: &Packed, least: u64) -> Result<(), Fault> {
+fn measure(rt: &HostRuntime, name: &str, table: &Packed, least: u64) -> Result<()> {
     let any = Size::new(u64::from(MOST_MARKS));
     let start = Instant::now(rt)?;
     let list = whole_list(rt.alloc(), table, &any, Support::new(least)?)?;
@@ -58,7 +31,7 @@ fn measure(rt: &HostRuntime, name: &str, table: &Packed, least: u64) -> Result<(
     Ok(())
 }
 
-fn main(rt: HostRuntime) -> Result<(), Fault> {
+fn main(rt: HostRuntime) -> Result<()> {
     let width = Width::new(27)?;
     let bytes = scattered(rt.alloc(), 4_000, width)?;
     measure(&rt, "many sets", &Packed::new(bytes.as_slice(), width)?, 90)?;

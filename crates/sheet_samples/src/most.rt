@@ -63,10 +63,7 @@ fn at_most_1048576_bytes(rt: HostRuntime) -> Result<(), Fail> {
 #[test]
 fn the_longest_sheet(rt: HostRuntime) -> Result<(), Fail> {
     let width = Width::new(10)?;
-    let mut sheet = Vec::new(rt.alloc());
-    for _ in 0..65_536 {
-        sheet.extend_from_slice(b"1 2 3 4 5 6 7 8\n")?;
-    }
+    let sheet = b"1 2 3 4 5 6 7 8\n".repeat(rt.alloc(), 65_536)?;
     let mut packed = vec![in rt.alloc(); 7; 262_144]?;
     assert_eq!(rt;
         read_sheet(sheet.as_slice(), width, packed.as_mut_slice()),

@@ -75,7 +75,7 @@ fn leading_digits(text: &[u8]) -> &[u8]
         .take(most)
         .take_while(|byte| byte.is_ascii_digit())
         .count();
-    &text[0..size]
+    &text[..size]
 }
 
 // The numbers of an order line, taken from the text one after another.

@@ -1,4 +1,4 @@
-use Rattle.std.proofs.Common.{◌≡◌, ◌-◌, length, take, ap, rules, arith, tests}
+use Rattle.std.proofs.Common.{◌≡◌, length, take, ap, ◌∙◌, rules, arith, tests}
 use Rattle.std.proofs.lemmas.Bool.Decides.{nat_tests}
 use Rattle.std.proofs.lemmas.Iterator.{YieldsList-from_slice, YieldsList-from_take}
 use Rattle.std.proofs.lemmas.List.{get_or_past}
@@ -23,4 +23,4 @@ returns c =
     (YieldsList-from_take_while _ is_ascii_digit (YieldsList-from_take c.if-text-lt1.most (YieldsList-from_slice text (cc)) (cc)) c.take_while.ensures.closure
     c.take_while.ensures.done (λ x b q k. search (rules, tests)))
     in
-    taken text (c.count-size.result - 0) (omega (arith, size, ap (λ most. length (take_while is_ascii_digit (take most text))) most))
+    taken text c.count-size.result (size ∙ ap (λ most. length (take_while is_ascii_digit (take most text))) most)

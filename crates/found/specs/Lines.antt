@@ -4,7 +4,7 @@ use Rattle.marks.specs.declared.refusal.Reason.TheVariants.{NoPlace}
 use Rattle.marks.specs.declared.refusal.Refusal.{Refusal}
 use Rattle.marks.specs.Memory.{put_in_front}
 use Rattle.marks.specs.Numbers.{most_marks}
-use Rattle.marks.specs.Refusals.{Answers, unplaced, due_if}
+use Rattle.marks.specs.Refusals.{Answers, unplaced, due_if, refusal_text}
 use Rattle.marks.specs.Sets.{has}
 
 -- the mark at bit b and a blank, if it is in the set
@@ -20,10 +20,9 @@ marks_text set (suc n) = marks_text set n ++ mark_text set n
 abbrev pub line_text : ℕ → ℕ → List ℕ
 line_text set support = marks_text set most_marks ++ ((codes "(" ++ decimal support) ++ codes ")\n")
 
--- a refusal: its number and its two places
+-- a refusal, as it is shown, and a line end
 abbrev pub fault_text : ℕ → ℕ → ℕ → List ℕ
-fault_text number line column =
-    (codes "fault " ++ decimal number) ++ ((codes " line " ++ decimal line) ++ ((codes " column " ++ decimal column) ++ codes "\n"))
+fault_text number line column = refusal_text number line column ++ codes "\n"
 
 -- the end of a list: how many sets it has, and how many nodes were opened
 abbrev pub end_text : ℕ → ℕ → List ℕ

@@ -1,5 +1,5 @@
 -- Refusals: the number of each reason, and what a call answers that may refuse.
-use Rattle.std.specs.Prelude.{◌≡◌, ℕ, Bool, cond, not, List, [], ◌∷◌, length, Some, None, Ok, Err, Option, Result}
+use Rattle.std.specs.Prelude.{◌≡◌, ℕ, Bool, cond, not, List, [], ◌∷◌, ◌++◌, length, codes, decimal, Some, None, Ok, Err, Option, Result}
 use Rattle.marks.specs.declared.refusal.Reason.{Reason}
 use Rattle.marks.specs.declared.refusal.Reason.TheVariants.{Form, Range, BadByte, BadNumber, BadRise, BadBlank, NoLineEnd, TooMany, NoPlace, Long, Ragged, Stray, WordCount, BadChoice, BadPair, OutOfOrder, ShortSlot, NothingYet, Clash, DeadEnd}
 use Rattle.marks.specs.declared.refusal.Refusal.{Refusal}
@@ -27,6 +27,10 @@ number_of ShortSlot = 17
 number_of NothingYet = 18
 number_of Clash = 19
 number_of DeadEnd = 20
+
+-- a refusal as it is shown: its number and its two places
+abbrev pub refusal_text : ℕ → ℕ → ℕ → List ℕ
+refusal_text number first second = (codes "fault " ++ decimal number) ++ ((codes " line " ++ decimal first) ++ (codes " column " ++ decimal second))
 
 -- a refusal that names two places, one, or none: a place that is not named is 0
 abbrev pub placed_at_two : Reason → ℕ → ℕ → Refusal

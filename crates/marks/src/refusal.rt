@@ -1,6 +1,6 @@
 // Why a call refuses, and where.
-ghost use Rattle.std.specs.Prelude.{◌≡◌, ◌==◌};
-ghost use Rattle.marks.specs.Refusals.{number_of, placed_at_two, placed_at, unplaced};
+ghost use Rattle.std.specs.Prelude.{◌≡◌, ◌==◌, Some};
+ghost use Rattle.marks.specs.Refusals.{number_of, refusal_text, placed_at_two, placed_at, unplaced};
 
 use std::error::Error;
 use std::fmt;
@@ -107,8 +107,10 @@ impl Refusal {
     }
 }
 
-// Shown by its number, as in the line that the program prints for it.
+// Shown by its number and its places, as in the line that the program prints for it.
 impl fmt::Display for Refusal {
+    ghost output = { λ refusal. Some (refusal_text (number_of refusal.reason) refusal.first refusal.second) };
+
     fn fmt<W: fmt::Write>(&self, f: &mut fmt::Formatter<W>) -> fmt::Result {
         let number = self.number();
         let (first, second) = (self.first, self.second);

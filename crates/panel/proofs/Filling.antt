@@ -28,7 +28,7 @@ use Rattle.panel.specs.Listing.{places, left_over, written_into, listed_into}
 
 -- ---- bytes
 
-records_size : (rs : List Record) → length (flat_map record_bytes rs) ≡ record_length * length rs
+pub records_size : (rs : List Record) → length (flat_map record_bytes rs) ≡ record_length * length rs
 records_size [] = refl
 records_size (r ∷ rs) = length-append (record_bytes r) (flat_map record_bytes rs) ∙ omega (arith, record_size r, records_size rs)
 

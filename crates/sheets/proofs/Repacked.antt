@@ -57,11 +57,11 @@ rows_again (row ∷ rows) fits =
 
 -- ---- no refusal is due
 
-none_first : (due : Option Refusal) (rest : List (Option Refusal)) → first_due (due ∷ rest) ≡ None → (due ≡ None) × (first_due rest ≡ None)
+pub none_first : (due : Option Refusal) (rest : List (Option Refusal)) → first_due (due ∷ rest) ≡ None → (due ≡ None) × (first_due rest ≡ None)
 none_first None rest h = (refl, h)
 none_first (Some refusal) rest h = absurd (none-some refusal (sym h))
 
-not_due_if : (test : Bool) (refusal : Refusal) → due_if test refusal ≡ None → test ≡ false
+pub not_due_if : (test : Bool) (refusal : Refusal) → due_if test refusal ≡ None → test ≡ false
 not_due_if true refusal h = absurd (none-some refusal (sym h))
 not_due_if false refusal h = refl
 
@@ -69,21 +69,17 @@ no_place : (place : Option ℕ) (f : ℕ → Refusal) → option_map f place ≡
 no_place None f h = refl
 no_place (Some k) f h = absurd (none-some (f k) (sym h))
 
--- packed bytes that are whole rows of marks up to n, no more of them than there can be charges, and whose sheet is not too long
-pub record Sheeted (n : ℕ) (bytes : List ℕ) : Type 0 where
+-- packed bytes are whole rows of marks up to n, no more of them than there can be charges
+pub record Packs (n : ℕ) (bytes : List ℕ) : Type 0 where
   pub whole : length bytes % row_bytes ≡ 0
   pub few : length (packed_rows bytes) ≤ most_charges
   pub within : (k : ℕ) → get_or (packed_rows bytes) k 0 < 2 ^ n
-  pub short : length (sheet_of bytes) ≤ most_bytes
 
-pub sheeted : (n room : ℕ) (bytes : List ℕ) → write_refusal bytes n room ≡ None → Sheeted n bytes
-unfolding write_refusal packed_refusal
-sheeted n room bytes h =
-    let packed = none_first (packed_refusal bytes n)
-    (due_if (ltb most_bytes (length (sheet_of bytes))) (unplaced Long) ∷ due_if (ltb room (length (sheet_of bytes))) (unplaced NoPlace) ∷ []) h in
-    let long = none_first (due_if (ltb most_bytes (length (sheet_of bytes))) (unplaced Long)) (due_if (ltb room (length (sheet_of bytes))) (unplaced NoPlace) ∷ []) packed.1 in
+pub packs : (n : ℕ) (bytes : List ℕ) → packed_refusal bytes n ≡ None → Packs n bytes
+unfolding packed_refusal
+packs n bytes h =
     let ragged = none_first (due_if (not (eqb (length bytes % row_bytes) 0)) (unplaced Ragged))
-    (due_if (ltb most_charges (length bytes / row_bytes)) (unplaced TooMany) ∷ option_map (placed_at Stray) (first_place (strays (all_below n)) (packed_rows bytes)) ∷ []) packed.0 in
+    (due_if (ltb most_charges (length bytes / row_bytes)) (unplaced TooMany) ∷ option_map (placed_at Stray) (first_place (strays (all_below n)) (packed_rows bytes)) ∷ []) h in
     let many = none_first (due_if (ltb most_charges (length bytes / row_bytes)) (unplaced TooMany))
     (option_map (placed_at Stray) (first_place (strays (all_below n)) (packed_rows bytes)) ∷ []) ragged.1 in
     let stray = none_first (option_map (placed_at Stray) (first_place (strays (all_below n)) (packed_rows bytes))) [] many.1 in
@@ -93,5 +89,20 @@ sheeted n room bytes h =
       whole = whole;
       few = omega (arith, whole_rows bytes whole, ltb-false most_charges (length bytes / row_bytes) (not_due_if (ltb most_charges (length bytes / row_bytes)) (unplaced TooMany) many.0));
       within = rows_within n (packed_rows bytes) (no_place (first_place (strays (all_below n)) (packed_rows bytes)) (placed_at Stray) stray.0);
+    }
+
+-- and their sheet is not too long
+pub record Sheeted (n : ℕ) (bytes : List ℕ) : Type 0 where
+  pub packed : Packs n bytes
+  pub short : length (sheet_of bytes) ≤ most_bytes
+
+pub sheeted : (n room : ℕ) (bytes : List ℕ) → write_refusal bytes n room ≡ None → Sheeted n bytes
+unfolding write_refusal
+sheeted n room bytes h =
+    let packed = none_first (packed_refusal bytes n)
+    (due_if (ltb most_bytes (length (sheet_of bytes))) (unplaced Long) ∷ due_if (ltb room (length (sheet_of bytes))) (unplaced NoPlace) ∷ []) h in
+    let long = none_first (due_if (ltb most_bytes (length (sheet_of bytes))) (unplaced Long)) (due_if (ltb room (length (sheet_of bytes))) (unplaced NoPlace) ∷ []) packed.1 in
+    record {
+      packed = packs n bytes packed.0;
       short = ltb-false most_bytes (length (sheet_of bytes)) (not_due_if (ltb most_bytes (length (sheet_of bytes))) (unplaced Long) long.0);
     }

@@ -16,12 +16,12 @@ module _ (n : ℕ) (bytes : List ℕ) (narrow : n ≤ 32) (fits : (i : ℕ) → 
   rows_read : (memory : List ℕ) → length bytes ≤ length memory → reading n (length memory) (sheet_of bytes) ≡ record { refusal = None; rows = packed_rows bytes }
   rows_read memory room =
       sheet_read n (length memory) (sheet_of bytes) (packed_rows bytes) narrow
-      (record { rendered = refl; within = s.within; few = s.few; fits = omega (arith, whole_rows bytes s.whole); short = s.short })
+      (record { rendered = refl; within = s.packed.within; few = s.packed.few; fits = omega (arith, whole_rows bytes s.packed.whole); short = s.short })
 
   bytes_read : (memory : List ℕ) → length bytes ≤ length memory → packed_into (reading n (length memory) (sheet_of bytes)).rows memory ≡ put_in_front bytes memory
   bytes_read memory room =
       ap (λ (r : Reading). packed_into r.rows memory) (rows_read memory room)
-      ∙ ap (λ l. put_in_front l memory) (repacked bytes fits s.whole)
+      ∙ ap (λ l. put_in_front l memory) (repacked bytes fits s.packed.whole)
 
   only_text : (other : List ℕ) (room : ℕ) → (reading n room other).refusal ≡ None → packed_bytes (reading n room other).rows ≡ bytes → other ≡ sheet_of bytes
   only_text other room taken same =

@@ -3,6 +3,7 @@ use Rattle.marks.specs.declared.numbers.Number.{Number}
 use Rattle.marks.specs.declared.numbers.charge.ChargeKind.{ChargeKind}
 use Rattle.marks.specs.declared.numbers.mark.MarkKind.{MarkKind}
 use Rattle.marks.specs.declared.numbers.support.SupportKind.{SupportKind}
+use Rattle.marks.specs.declared.numbers.width.WidthKind.{WidthKind}
 use Rattle.marks.specs.Numbers.{most_charges, most_marks}
 
 abbrev pub Mark : Type 0
@@ -13,3 +14,6 @@ Charge = Number ChargeKind most_charges
 
 abbrev pub Support : Type 0
 Support = Number SupportKind most_charges
+
+abbrev pub Width : Type 0
+Width = Number WidthKind most_marks

@@ -1,6 +1,7 @@
 -- Sets of marks, each kept as a number: the mark at bit b is in the set s where bit b of s is 1. Mark i is at bit i - 1.
 use Rattle.std.specs.Prelude.{◌≡◌, ℕ, zero, suc, ◌-◌, ◌/◌, ◌%◌, ◌^◌, ◌<◌, Bool, true, false, cond, not, ◌&&◌, ◌||◌, List, length, Decides, filter, ◌==◌, bit_and, bit_or, bit_xor, count_ones, nat_lt}
 use Rattle.std.specs.List.{range_with_len}
+use Rattle.marks.specs.Kinds.{Width}
 use Rattle.marks.specs.Numbers.{most_marks}
 
 -- the mark at bit b is in s
@@ -18,6 +19,10 @@ only b = 2 ^ b
 -- the marks at the bits below n: all marks up to n
 abbrev pub all_below : ℕ → ℕ
 all_below n = 2 ^ n - 1
+
+-- all marks up to a width
+abbrev pub up_to : Width → ℕ
+up_to width = all_below width.number
 
 -- the marks that are in s or in t
 abbrev pub either : ℕ → ℕ → ℕ

@@ -3,7 +3,7 @@ ghost use Rattle.std.specs.Prelude.{◌≡◌, ℕ, ◌^◌, ◌<◌, Bool, true
 ghost use Rattle.std.specs.Iterator.{YieldsFirstBy, item_count};
 ghost use Rattle.marks.specs.Filtering.{Filtered};
 ghost use Rattle.marks.specs.Numbers.{bit_of, most_marks};
-ghost use Rattle.marks.specs.Sets.{bits_below, has, no_marks, only, all_below, either, both, differing, minus, with_bit, without_bit, part_of, size_of, Lowest, Highest, Membership};
+ghost use Rattle.marks.specs.Sets.{bits_below, has, no_marks, only, all_below, up_to, either, both, differing, minus, with_bit, without_bit, part_of, size_of, Lowest, Highest, Membership};
 
 use crate::numbers::MOST_MARKS;
 use crate::numbers::mark::Mark;
@@ -50,7 +50,7 @@ impl MarkSet {
 
     /// All marks up to a width.
     pub fn up_to(width: Width) -> MarkSet
-        ensures { result.bits ≡ all_below width.number }
+        ensures { result.bits ≡ up_to width }
     {
         MarkSet {
             bits: u32::MAX >> (MOST_MARKS - width.get()),

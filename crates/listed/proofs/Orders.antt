@@ -1,12 +1,12 @@
 -- Which fault an input has, and where its sheet begins.
-use Rattle.std.proofs.Common.{◌≡◌, ℕ, ◌-◌, ◌<◌, ◌≤◌, List, [], ◌∷◌, length, get_or, take, drop, Some, None, Ok, Option, sym, refl, ap, ◌∙◌, inl, inr, arith, length-append, length-drop}
+use Rattle.std.proofs.Common.{◌≡◌, ℕ, ◌-◌, ◌<◌, ◌≤◌, List, [], ◌∷◌, length, get_or, take, drop, Some, None, Option, sym, refl, ap, ◌∙◌, arith, length-drop}
 use Rattle.std.proofs.lemmas.List.{take_all}
 use Rattle.std.proofs.lemmas.Bool.{le-leb, lt-leb}
 use Rattle.marks.specs.declared.refusal.Reason.TheVariants.{Long}
 use Rattle.marks.specs.declared.refusal.Refusal.{Refusal}
 use Rattle.marks.specs.Refusals.{unplaced, first_due}
 use Rattle.sheets.specs.declared.order.Order.{Order}
-use Rattle.sheets.specs.OrderLines.{number_ends, ended_numbers, number_start, number_in, order_refusal, Says, ReadsRightLines}
+use Rattle.sheets.specs.OrderLines.{number_start, number_in, order_refusal, Says}
 use Rattle.sheets.specs.Reading.{Reading, reading}
 use Rattle.listed.specs.Asking.{input_limit, sheet_room, sheet_reading, input_refusal}
 

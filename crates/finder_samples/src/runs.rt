@@ -1,6 +1,8 @@
 // Finders: slots, looking, rewinding, the end of a list, transcripts and whole lists.
-use crate::layers::CHARGES;
-use crate::records::record;
+const CHARGES: [u8; 20] = [
+    11, 0, 0, 0, 3, 0, 0, 0, 6, 0, 0, 0, 11, 0, 0, 0, 20, 0, 0, 0,
+];
+use crate::answers::record;
 use finder::{Finder, Move, Step, Told, transcript, whole_list};
 use found::{RECORD_BYTES, Record};
 use limits::{Limit, Size};

@@ -6,7 +6,7 @@ use std::alloc::{AllocError, Global};
 use std::test::Fail;
 use worked::{Listing, Narrowing, list, narrow_sample};
 
-fn record(bits: u32, support: u32, ordinal: u64, opened: u64) -> Record {
+pub(crate) fn record(bits: u32, support: u32, ordinal: u64, opened: u64) -> Record {
     Record {
         set: MarkSet::from_bits(bits),
         support,

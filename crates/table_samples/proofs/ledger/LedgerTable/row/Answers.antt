@@ -6,7 +6,7 @@ use Rattle.marks.specs.Numbers.{InRange, most_charges}
 use Rattle.marks.specs.Sets.{both, all_below}
 use Rattle.tables.specs.Meaning.{count_of, nearest_width, row_of, trimmed}
 use Rattle.tables.specs.Trimmed.{trimmed_count, trimmed_read, trimmed_beyond}
-use Rattle.samples.proofs.ledger.LedgerTable.row.Goals as goal
+use Rattle.table_samples.proofs.ledger.LedgerTable.row.Goals as goal
 
 -- a row, cut to the width, is what is meant, and there is none past the rows
 read : (n : ℕ) (rows : List ℕ) (charge : ℕ) → InRange most_charges charge

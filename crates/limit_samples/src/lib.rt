@@ -1,34 +1,8 @@
-// Worked examples, and cases at the edges, run as tests.
+// A limit of one's own, and limits at their edges, run as tests.
 #![tactic(auto)]
 
 #[cfg(test)]
-mod answers;
-#[cfg(test)]
-mod asked;
-#[cfg(test)]
-mod columns;
-#[cfg(test)]
 mod house_limits;
-#[cfg(test)]
-mod layers;
-pub mod ledger;
-#[cfg(test)]
-mod narrowing;
-#[cfg(test)]
-mod numbers;
-#[cfg(test)]
-mod packed;
-pub mod piles;
-#[cfg(test)]
-mod printed;
-#[cfg(test)]
-mod records;
-#[cfg(test)]
-mod refusals;
-#[cfg(test)]
-mod runs;
-#[cfg(test)]
-mod sets;
 pub mod within;
 
 #[cfg(test)]

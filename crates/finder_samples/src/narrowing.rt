@@ -1,6 +1,8 @@
 // Tallies, and nodes that are narrowed.
-use crate::layers::CHARGES;
-use crate::within::Within;
+const CHARGES: [u8; 20] = [
+    11, 0, 0, 0, 3, 0, 0, 0, 6, 0, 0, 0, 11, 0, 0, 0, 20, 0, 0, 0,
+];
+use limit_samples::within::Within;
 use finder::{Node, Tally, narrow};
 use limits::{Limit, Size};
 use marks::{Mark, MarkSet, Reason, Refusal, Support, Width};

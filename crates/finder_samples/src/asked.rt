@@ -4,53 +4,49 @@ use std::alloc::{AllocError, Global};
 use std::test::Fail;
 
 // Whether this text is printed for an input.
-fn prints(heap: Global, input: &[u8], text: &[u8]) -> Result<bool, AllocError> {
-    Ok(answer(heap, input)?.as_slice() == text)
+fn prints(heap: Global, input: &[u8], text: &str) -> Result<bool, AllocError> {
+    Ok(answer(heap, input)?.as_slice() == text.as_bytes())
+}
+
+#[test]
+fn lists_and_faults(rt: HostRuntime) -> Result<(), Fail> {
+    for (input, text) in [
+        (
+            "5 2 5 1 5\n1 2 4\n1 2\n2 3\n1 2 4\n3 5\n",
+            "1 2 4 (2)\n1 2 (3)\n2 (4)\n3 (2)\n(5)\nsets 5 opened 9\n",
+        ),
+        (
+            "5 2 5 2 3\n1 2 4\n1 2\n2 3\n1 2 4\n3 5\n",
+            "1 2 (2)\n2 (3)\nsets 2 opened 3\n",
+        ),
+        ("5 6 5 1 5\n", "sets 0 opened 1\n"),
+        ("", "fault 1 line 0 column 1\n"),
+        ("5 0 5 1 5\n1 1", "fault 2 line 0 column 3\n"),
+        ("5 2 5 1 5\n1 1\n", "fault 5 line 1 column 3\n"),
+        ("5 2 5 1 5\n1", "fault 7 line 1 column 2\n"),
+    ] {
+        assert!(rt; prints(rt.alloc(), input.as_bytes(), text)?, "{input:?}");
+    }
+    Ok(())
 }
 
 // An order line and behind it so many empty lines.
 fn empty_lines(heap: Global, count: usize) -> Result<Vec<u8>, AllocError> {
     let mut input = Vec::new(heap);
     input.extend_from_slice(b"5 2 5 1 5\n")?;
-    for _ in 0..count {
-        input.push(b'\n')?;
-    }
+    input.extend_from_slice(vec![in heap; b'\n'; count]?.as_slice())?;
     Ok(input)
 }
 
 #[test]
-fn lists(rt: HostRuntime) -> Result<(), Fail> {
-    let sheet = b"5 2 5 1 5\n1 2 4\n1 2\n2 3\n1 2 4\n3 5\n";
-    let list = b"1 2 4 (2)\n1 2 (3)\n2 (4)\n3 (2)\n(5)\nsets 5 opened 9\n";
-    assert!(rt; prints(rt.alloc(), sheet, list)?);
-    let window = b"5 2 5 2 3\n1 2 4\n1 2\n2 3\n1 2 4\n3 5\n";
-    assert!(rt; prints(rt.alloc(), window, b"1 2 (2)\n2 (3)\nsets 2 opened 3\n")?);
-    assert!(rt; prints(rt.alloc(), b"5 6 5 1 5\n", b"sets 0 opened 1\n")?);
-    Ok(())
-}
-
-#[test]
-fn faults(rt: HostRuntime) -> Result<(), Fail> {
-    assert!(rt; prints(rt.alloc(), b"", b"fault 1 line 0 column 1\n")?);
-    assert!(rt; prints(rt.alloc(), b"5 0 5 1 5\n1 1", b"fault 2 line 0 column 3\n")?);
-    assert!(rt;
-        prints(
-            rt.alloc(),
-            b"5 2 5 1 5\n1 1\n",
-            b"fault 5 line 1 column 3\n"
-        )?
-    );
-    assert!(rt; prints(rt.alloc(), b"5 2 5 1 5\n1", b"fault 7 line 1 column 2\n")?);
-    Ok(())
-}
-
-#[test]
 fn most_lines(rt: HostRuntime) -> Result<(), Fail> {
-    let fit = empty_lines(rt.alloc(), 4_096)?;
-    assert!(rt; prints(rt.alloc(), &fit, b"(5)\nsets 1 opened 1\n")?);
-    let more = empty_lines(rt.alloc(), 4_097)?;
-    assert!(rt; prints(rt.alloc(), &more, b"fault 9 line 4097 column 1\n")?);
-    let long = empty_lines(rt.alloc(), INPUT_LIMIT)?;
-    assert!(rt; prints(rt.alloc(), &long, b"fault 10 line 0 column 0\n")?);
+    for (count, text) in [
+        (4_096, "(5)\nsets 1 opened 1\n"),
+        (4_097, "fault 9 line 4097 column 1\n"),
+        (INPUT_LIMIT, "fault 10 line 0 column 0\n"),
+    ] {
+        let input = empty_lines(rt.alloc(), count)?;
+        assert!(rt; prints(rt.alloc(), input.as_slice(), text)?, "{count}");
+    }
     Ok(())
 }

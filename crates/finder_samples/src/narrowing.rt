@@ -1,76 +1,73 @@
 // Tallies, and nodes that are narrowed.
-const CHARGES: [u8; 20] = [
-    11, 0, 0, 0, 3, 0, 0, 0, 6, 0, 0, 0, 11, 0, 0, 0, 20, 0, 0, 0,
-];
-use limit_samples::within::Within;
 use finder::{Node, Tally, narrow};
+use limit_samples::within::Within;
 use limits::{Limit, Size};
 use marks::{Mark, MarkSet, Reason, Refusal, Support, Width};
 use std::test::Fail;
-use tables::{Columns, Holding, Packed, Table, turn};
+use tables::{Columns, Holding, Table, turn};
+use worked::sample;
 
-// Where sets have at least two charges, the node with these marks put in and put out, or its refusal.
+// Where sets have at least two charges, the node with these marks put in and put out.
 fn narrowed<T: Table, W: Limit>(
     table: &T,
     limit: &W,
     ins: u32,
     outs: u32,
-) -> Result<Result<Node, Refusal>, Fail> {
+) -> Result<Node, Refusal> {
     let (ins, outs) = (MarkSet::from_bits(ins), MarkSet::from_bits(outs));
-    Ok(narrow(table, limit, Support::new(2)?, ins, outs))
+    narrow(table, limit, Support::new(2).unwrap(), ins, outs)
 }
 
-fn node(ins: u32, outs: u32, support: u32) -> Result<Node, Refusal> {
-    Ok(Node {
-        ins: MarkSet::from_bits(ins),
-        outs: MarkSet::from_bits(outs),
-        support,
-    })
+// A node, or a refusal with no place.
+fn node(answer: Result<(u32, u32, u32), Reason>) -> Result<Node, Refusal> {
+    match answer {
+        Ok((ins, outs, support)) => Ok(Node {
+            ins: MarkSet::from_bits(ins),
+            outs: MarkSet::from_bits(outs),
+            support,
+        }),
+        Err(reason) => Err(Refusal::unplaced(reason)),
+    }
 }
 
+// With nothing put in or out, and with marks that clash. Other nodes of the sample are with the worked answers.
 #[test]
-fn nodes_hold_what_all_that_fit_have(rt: HostRuntime) -> Result<(), Fail> {
-    let table = Packed::new(&CHARGES, Width::new(5)?)?;
+fn the_root_and_clashes(rt: HostRuntime) {
     let any = Size::new(5);
-    assert_eq!(rt; narrowed(&table, &any, 0, 0)?, node(0, 0b10000, 5));
-    assert_eq!(rt; narrowed(&table, &any, 0, 0b1)?, node(0, 0b11001, 5));
+    let nodes = [
+        narrowed(&sample(), &any, 0, 0),
+        narrowed(&sample(), &any, 0b10, 0b110),
+        narrowed(&sample(), &any, 0b100000, 0),
+        narrowed(&sample(), &any, 0, 1 << 31),
+        narrowed(&sample(), &any, 0b1000, 0b100010),
+    ];
+    let clash = node(Err(Reason::Clash));
     assert_eq!(rt;
-        narrowed(&table, &any, 0b1000, 0)?,
-        node(0b1011, 0b10100, 2)
+        nodes,
+        [node(Ok((0, 0b10000, 5))), clash, clash, clash, clash]
     );
-    assert_eq!(rt;
-        narrowed(&table, &any, 0b1000, 0b10)?,
-        Err(Refusal::unplaced(Reason::DeadEnd))
-    );
-    Ok(())
 }
 
 // Two charges hold mark 4, but each of them holds marks 1 and 2 besides.
 #[test]
 fn limits_are_asked_about_closures(rt: HostRuntime) -> Result<(), Fail> {
-    let packed = Packed::new(&CHARGES, Width::new(5)?)?;
-    let mut words = [0u64; 5];
-    turn(&packed, &mut words)?;
+    let mut words = [0; 5];
+    turn(&sample(), &mut words)?;
     let columns = Columns::new(&words, Width::new(5)?, 5)?;
-    let dead_end = Err(Refusal::unplaced(Reason::DeadEnd));
-    let one = Size::new(1);
-    assert_eq!(rt; narrowed(&packed, &one, 0, 0)?, node(0, 0b11001, 5));
-    assert_eq!(rt; narrowed(&packed, &one, 0b1000, 0)?, dead_end);
     let two = Within::new(MarkSet::from_bits(0b1010));
-    assert_eq!(rt; narrowed(&columns, &two, 0, 0)?, node(0, 0b11101, 5));
-    assert_eq!(rt; narrowed(&columns, &two, 0b1000, 0)?, dead_end);
-    Ok(())
-}
-
-#[test]
-fn marks_that_clash(rt: HostRuntime) -> Result<(), Fail> {
-    let table = Packed::new(&CHARGES, Width::new(5)?)?;
-    let any = Size::new(5);
-    let clash = Err(Refusal::unplaced(Reason::Clash));
-    assert_eq!(rt; narrowed(&table, &any, 0b10, 0b110)?, clash);
-    assert_eq!(rt; narrowed(&table, &any, 0b100000, 0)?, clash);
-    assert_eq!(rt; narrowed(&table, &any, 0, 1 << 31)?, clash);
-    assert_eq!(rt; narrowed(&table, &any, 0b1000, 0b100010)?, clash);
+    let nodes = [
+        narrowed(&sample(), &Size::new(1), 0, 0),
+        narrowed(&sample(), &Size::new(1), 0b1000, 0),
+        narrowed(&columns, &two, 0, 0),
+        narrowed(&columns, &two, 0b1000, 0),
+    ];
+    let due = [
+        node(Ok((0, 0b11001, 5))),
+        node(Err(Reason::DeadEnd)),
+        node(Ok((0, 0b11101, 5))),
+        node(Err(Reason::DeadEnd)),
+    ];
+    assert_eq!(rt; nodes, due);
     Ok(())
 }
 
@@ -78,28 +75,29 @@ fn seen(holding: Holding) -> (u32, u32) {
     (holding.support(), holding.closure().bits())
 }
 
-// What a tally at width 5 says of the set itself, and of it with mark 1, 4, 6 or 32 added.
-fn tally(set: u32) -> Result<[(u32, u32); 5], Fail> {
-    let table = Packed::new(&CHARGES, Width::new(5)?)?;
-    let tally = Tally::of(&table, MarkSet::from_bits(set));
-    Ok([
+// What a tally says of the set itself, and of it with mark 1, 4, 6 or 32 added.
+fn tally(set: u32) -> [(u32, u32); 5] {
+    let tally = Tally::of(&sample(), MarkSet::from_bits(set));
+    [
         seen(tally.own()),
-        seen(tally.with(Mark::new(1)?)),
-        seen(tally.with(Mark::new(4)?)),
-        seen(tally.with(Mark::new(6)?)),
-        seen(tally.with(Mark::new(32)?)),
-    ])
+        seen(tally.with(Mark::new(1).unwrap())),
+        seen(tally.with(Mark::new(4).unwrap())),
+        seen(tally.with(Mark::new(6).unwrap())),
+        seen(tally.with(Mark::new(32).unwrap())),
+    ]
 }
 
 #[test]
-fn tallies(rt: HostRuntime) -> Result<(), Fail> {
+fn tallies(rt: HostRuntime) {
     let none = (0, 0b11111);
+    let tallies = [tally(0b1), tally(0), tally(0b100001), tally(1 << 31)];
     assert_eq!(rt;
-        tally(0b1)?,
-        [(3, 0b11), (3, 0b11), (2, 0b1011), none, none]
+        tallies,
+        [
+            [(3, 0b11), (3, 0b11), (2, 0b1011), none, none],
+            [(5, 0), (3, 0b11), (2, 0b1011), none, none],
+            [none; 5],
+            [none; 5],
+        ]
     );
-    assert_eq!(rt; tally(0)?, [(5, 0), (3, 0b11), (2, 0b1011), none, none]);
-    assert_eq!(rt; tally(0b100001)?, [none; 5]);
-    assert_eq!(rt; tally(1 << 31)?, [none; 5]);
-    Ok(())
 }

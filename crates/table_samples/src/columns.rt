@@ -1,69 +1,62 @@
 // Columns at their edges, and tables turned into columns.
 use crate::ledger::Ledger;
-use crate::replaced::replace;
 use marks::{Charge, Reason, Refusal, Width};
 use std::alloc::Global;
 use std::test::Fail;
 use tables::{Columns, Table, turn};
 
-// The refusal of so many words, all 0 but for one that may be put at a place, at width 3 and a count, if they are refused.
-fn refusal(
-    heap: Global,
-    size: usize,
-    count: u64,
-    put: Option<(usize, u64)>,
-) -> Result<Option<Refusal>, Fail> {
-    let mut words = vec![in heap; 0; size]?;
-    replace(words.as_mut_slice(), put);
-    Ok(Columns::new(words.as_slice(), Width::new(3)?, count).err())
+// The refusal of these words as columns at width 3, if they are refused.
+fn refusal(words: &[u64], count: u64) -> Option<Refusal> {
+    Columns::new(words, Width::new(3).unwrap(), count).err()
+}
+
+fn stray(mark: u64) -> Option<Refusal> {
+    Some(Refusal::at(Reason::Stray, mark))
 }
 
 #[test]
-fn so_many_words(rt: HostRuntime) -> Result<(), Fail> {
-    let word_count = Some(Refusal::unplaced(Reason::WordCount));
-    assert_eq!(rt; refusal(rt.alloc(), 0, 0, None)?, None);
-    assert_eq!(rt; refusal(rt.alloc(), 1, 0, None)?, word_count);
-    assert_eq!(rt; refusal(rt.alloc(), 2, 1, None)?, word_count);
-    assert_eq!(rt; refusal(rt.alloc(), 3, 64, None)?, None);
-    assert_eq!(rt; refusal(rt.alloc(), 4, 64, None)?, word_count);
-    assert_eq!(rt; refusal(rt.alloc(), 6, 65, None)?, None);
-    assert_eq!(rt;
-        refusal(rt.alloc(), 3072, 65_536, Some((0, u64::MAX)))?,
-        None
-    );
-    Ok(())
+fn so_many_words(rt: HostRuntime) {
+    let refusals = [
+        refusal(&[], 0),
+        refusal(&[0], 0),
+        refusal(&[0; 2], 1),
+        refusal(&[0; 3], 64),
+        refusal(&[0; 4], 64),
+        refusal(&[0; 6], 65),
+    ];
+    let count = Some(Refusal::unplaced(Reason::WordCount));
+    assert_eq!(rt; refusals, [None, count, count, None, count, None]);
 }
 
 #[test]
 fn at_most_65536_charges(rt: HostRuntime) -> Result<(), Fail> {
+    let words = vec![in rt.alloc(); u64::MAX; 3072]?;
+    let refusals = [
+        refusal(words.as_slice(), 65_536),
+        refusal(words.as_slice(), 65_537),
+        refusal(&[], u64::MAX),
+    ];
     let too_many = Some(Refusal::unplaced(Reason::TooMany));
-    assert_eq!(rt; refusal(rt.alloc(), 3072, 65_537, None)?, too_many);
-    assert_eq!(rt; refusal(rt.alloc(), 0, u64::MAX, None)?, too_many);
+    assert_eq!(rt; refusals, [None, too_many, too_many]);
     Ok(())
 }
 
+// The words are counted before a bit past the count is seen.
 #[test]
-fn no_bit_past_the_count(rt: HostRuntime) -> Result<(), Fail> {
-    let word_count = Some(Refusal::unplaced(Reason::WordCount));
+fn no_bit_past_the_count(rt: HostRuntime) {
+    let refusals = [
+        refusal(&[1 << 63, 0, 0], 63),
+        refusal(&[0, 0, 1 << 63], 63),
+        refusal(&[0, 2, 0], 1),
+        refusal(&[0, 0, 0, 0, 0, 2], 65),
+        refusal(&[0, 0, 0, 0, 2, 0], 65),
+        refusal(&[0, 0, 0, 0, 2], 65),
+    ];
+    let count = Some(Refusal::unplaced(Reason::WordCount));
     assert_eq!(rt;
-        refusal(rt.alloc(), 3, 63, Some((0, 1 << 63)))?,
-        Some(Refusal::at(Reason::Stray, 1))
+        refusals,
+        [stray(1), stray(3), stray(2), stray(3), None, count]
     );
-    assert_eq!(rt;
-        refusal(rt.alloc(), 3, 63, Some((2, 1 << 63)))?,
-        Some(Refusal::at(Reason::Stray, 3))
-    );
-    assert_eq!(rt;
-        refusal(rt.alloc(), 3, 1, Some((1, 2)))?,
-        Some(Refusal::at(Reason::Stray, 2))
-    );
-    assert_eq!(rt;
-        refusal(rt.alloc(), 6, 65, Some((5, 2)))?,
-        Some(Refusal::at(Reason::Stray, 3))
-    );
-    assert_eq!(rt; refusal(rt.alloc(), 6, 65, Some((4, 2)))?, None);
-    assert_eq!(rt; refusal(rt.alloc(), 5, 65, Some((4, 2)))?, word_count);
-    Ok(())
 }
 
 // Rows that are all unlike, of the marks up to 20.
@@ -87,22 +80,25 @@ fn turns(heap: Global, count: u32, size: usize) -> Result<bool, Fail> {
 
 #[test]
 fn turned_tables_are_the_same(rt: HostRuntime) -> Result<(), Fail> {
-    assert!(rt; turns(rt.alloc(), 0, 0)?);
-    assert!(rt; turns(rt.alloc(), 1, 20)?);
-    assert!(rt; turns(rt.alloc(), 63, 20)?);
-    assert!(rt; turns(rt.alloc(), 64, 20)?);
-    assert!(rt; turns(rt.alloc(), 65, 40)?);
-    assert!(rt; turns(rt.alloc(), 65_536, 20_480)?);
+    for (count, size) in [
+        (0, 0),
+        (1, 20),
+        (63, 20),
+        (64, 20),
+        (65, 40),
+        (65_536, 20_480),
+    ] {
+        assert!(rt; turns(rt.alloc(), count, size)?, "{count}");
+    }
     Ok(())
 }
 
 #[test]
 fn turning_wants_its_words(rt: HostRuntime) -> Result<(), Fail> {
     let table = ledger(rt.alloc(), 65)?;
-    let (mut short, mut long) = ([7u64; 39], [7u64; 41]);
-    let word_count = Err(Refusal::unplaced(Reason::WordCount));
-    assert_eq!(rt; turn(&table, &mut short), word_count);
-    assert_eq!(rt; turn(&table, &mut long), word_count);
-    assert_eq!(rt; (short, long), ([7u64; 39], [7u64; 41]));
+    let (mut short, mut long) = ([7; 39], [7; 41]);
+    let answers = [turn(&table, &mut short), turn(&table, &mut long)];
+    assert_eq!(rt; answers, [Err(Refusal::unplaced(Reason::WordCount)); 2]);
+    assert_eq!(rt; (short, long), ([7; 39], [7; 41]));
     Ok(())
 }

@@ -1,75 +1,64 @@
-// Numbers at the edges of their ranges. Each kind has a test of its own, so that one that fails names the kind.
+// Numbers at the edges of their ranges.
 use marks::{Charge, Mark, Reason, Refusal, Support, Width};
-use std::test::Fail;
 
+// Of each kind a number before the first, the first, the last, one past the last, and one that is 1 in 32 bits. A row that is wrong names the kind.
 #[test]
-fn marks_are_1_to_32(rt: HostRuntime) {
-    let range = Some(Refusal::unplaced(Reason::Range));
-    assert_eq!(rt; Mark::new(0).err(), range);
-    assert_eq!(rt; Mark::new(1).err(), None);
-    assert_eq!(rt; Mark::new(32).err(), None);
-    assert_eq!(rt; Mark::new(33).err(), range);
-    assert_eq!(rt; Mark::new(4_294_967_297).err(), range);
-}
-
-#[test]
-fn widths_are_1_to_32(rt: HostRuntime) {
-    let range = Some(Refusal::unplaced(Reason::Range));
-    assert_eq!(rt; Width::new(0).err(), range);
-    assert_eq!(rt; Width::new(1).err(), None);
-    assert_eq!(rt; Width::new(32).err(), None);
-    assert_eq!(rt; Width::new(33).err(), range);
-    assert_eq!(rt; Width::new(4_294_967_297).err(), range);
-}
-
-#[test]
-fn charges_are_1_to_65536(rt: HostRuntime) {
-    let range = Some(Refusal::unplaced(Reason::Range));
-    assert_eq!(rt; Charge::new(0).err(), range);
-    assert_eq!(rt; Charge::new(1).err(), None);
-    assert_eq!(rt; Charge::new(65_536).err(), None);
-    assert_eq!(rt; Charge::new(65_537).err(), range);
-    assert_eq!(rt; Charge::new(u64::MAX).err(), range);
-}
-
-#[test]
-fn supports_are_1_to_65536(rt: HostRuntime) {
-    let range = Some(Refusal::unplaced(Reason::Range));
-    assert_eq!(rt; Support::new(0).err(), range);
-    assert_eq!(rt; Support::new(1).err(), None);
-    assert_eq!(rt; Support::new(65_536).err(), None);
-    assert_eq!(rt; Support::new(65_537).err(), range);
-    assert_eq!(rt; Support::new(u64::MAX).err(), range);
-}
-
-#[test]
-fn charges_follow_one_another_up_to_the_count(rt: HostRuntime) -> Result<(), Fail> {
-    assert_eq!(rt; Charge::first(0), None);
-    assert_eq!(rt; Charge::first(1), Some(Charge::new(1)?));
-    assert_eq!(rt; Charge::new(1)?.next(2), Some(Charge::new(2)?));
-    assert_eq!(rt; Charge::new(2)?.next(2), None);
-    assert_eq!(rt;
-        Charge::new(65_535)?.next(u32::MAX),
-        Some(Charge::new(65_536)?)
+fn ranges_of_the_kinds(rt: HostRuntime) {
+    let (short, long) = (
+        [0, 1, 32, 33, 4_294_967_297],
+        [0, 1, 65_536, 65_537, 4_294_967_297],
     );
-    assert_eq!(rt; Charge::new(65_536)?.next(u32::MAX), None);
-    Ok(())
+    let within = [
+        short.map(|number| Mark::new(number).is_ok()),
+        short.map(|number| Width::new(number).is_ok()),
+        long.map(|number| Charge::new(number).is_ok()),
+        long.map(|number| Support::new(number).is_ok()),
+    ];
+    assert_eq!(rt; within, [[false, true, true, false, false]; 4]);
 }
 
 #[test]
-fn charges_in_turn(rt: HostRuntime) -> Result<(), Fail> {
-    let mut charges = Charge::up_to(2);
-    assert_eq!(rt; charges.next(), Some(Charge::new(1)?));
-    assert_eq!(rt; charges.next(), Some(Charge::new(2)?));
-    assert_eq!(rt; charges.next(), None);
-    assert_eq!(rt; Charge::up_to(0).next(), None);
+fn numbers_out_of_range_are_refused(rt: HostRuntime) {
+    assert_eq!(rt; Mark::new(0), Err(Refusal::unplaced(Reason::Range)));
+}
+
+// The number of the charge after this one, if it is among so many.
+fn after(charge: u64, count: u32) -> Result<Option<u32>, Refusal> {
+    Ok(Charge::new(charge)?.next(count).map(Charge::get))
+}
+
+#[test]
+fn charges_follow_one_another_up_to_the_count(rt: HostRuntime) {
+    let numbers = [
+        after(1, 2),
+        after(2, 2),
+        after(65_535, u32::MAX),
+        after(65_536, u32::MAX),
+    ];
     assert_eq!(rt;
-        Charge::up_to(u32::MAX).nth(65_535),
-        Some(Charge::new(65_536)?)
+        numbers,
+        [Ok(Some(2)), Ok(None), Ok(Some(65_536)), Ok(None)]
     );
-    assert_eq!(rt; Charge::up_to(u32::MAX).nth(65_536), None);
-    assert_eq!(rt; Charge::new(1)?.place(), 0);
-    assert_eq!(rt; Charge::new(65_536)?.place(), 65_535);
-    assert_eq!(rt; Mark::new(32)?.place(), 31);
-    Ok(())
+}
+
+#[test]
+fn first_charges(rt: HostRuntime) {
+    for (count, charge) in [(0, None), (1, Some(1))] {
+        assert_eq!(rt; Charge::first(count).map(Charge::get), charge);
+    }
+}
+
+#[test]
+fn charges_in_turn(rt: HostRuntime) {
+    for (count, place, charge) in [
+        (0, 0, None),
+        (2, 0, Some(1)),
+        (2, 1, Some(2)),
+        (2, 2, None),
+        (u32::MAX, 65_535, Some(65_536)),
+        (u32::MAX, 65_536, None),
+    ] {
+        let found = Charge::up_to(count).nth(place);
+        assert_eq!(rt; found.map(Charge::get), charge);
+    }
 }

@@ -37,7 +37,10 @@ fn places(refusal: Refusal) -> (u64, u64) {
 
 #[test]
 fn places_of_refusals(rt: HostRuntime) {
-    assert_eq!(rt; places(Refusal::unplaced(Reason::Range)), (0, 0));
-    assert_eq!(rt; places(Refusal::at(Reason::BadChoice, 33)), (33, 0));
-    assert_eq!(rt; places(Refusal::at_line(Reason::BadRise, 1, 3)), (1, 3));
+    let refusals = [
+        Refusal::unplaced(Reason::Range),
+        Refusal::at(Reason::BadChoice, 33),
+        Refusal::at_line(Reason::BadRise, 1, 3),
+    ];
+    assert_eq!(rt; refusals.map(places), [(0, 0), (33, 0), (1, 3)]);
 }

@@ -1,50 +1,83 @@
 // Sets at their edges.
-use marks::{Mark, MarkSet, Width};
+use marks::{Mark, MarkSet, Refusal, Width, first_unordered};
 use std::test::Fail;
 
-#[test]
-fn marks_up_to_a_width(rt: HostRuntime) -> Result<(), Fail> {
-    assert_eq!(rt; MarkSet::up_to(Width::new(1)?).bits(), 1);
-    assert_eq!(rt; MarkSet::up_to(Width::new(5)?).bits(), 31);
-    assert_eq!(rt; MarkSet::up_to(Width::new(32)?).bits(), u32::MAX);
-    assert_eq!(rt; MarkSet::below(Mark::new(1)?).bits(), 0);
-    assert_eq!(rt; MarkSet::below(Mark::new(32)?).bits(), u32::MAX >> 1);
-    Ok(())
+fn up_to(width: u64) -> Result<u32, Refusal> {
+    Ok(MarkSet::up_to(Width::new(width)?).bits())
+}
+
+fn below(mark: u64) -> Result<u32, Refusal> {
+    Ok(MarkSet::below(Mark::new(mark)?).bits())
 }
 
 #[test]
-fn lowest_and_highest(rt: HostRuntime) -> Result<(), Fail> {
-    assert_eq!(rt; MarkSet::empty().lowest(), None);
-    assert_eq!(rt; MarkSet::empty().highest(), None);
+fn marks_up_to_a_width_and_below_a_mark(rt: HostRuntime) {
+    let bits = [up_to(1), up_to(5), up_to(32), below(1), below(32)];
+    assert_eq!(rt;
+        bits,
+        [Ok(1), Ok(31), Ok(u32::MAX), Ok(0), Ok(u32::MAX >> 1)]
+    );
+}
+
+#[test]
+fn lowest_and_highest(rt: HostRuntime) {
+    for (bits, lowest, highest) in [
+        (0, None, None),
+        (1, Some(1), Some(1)),
+        (0x8000_0001, Some(1), Some(32)),
+        (0x8000_0000, Some(32), Some(32)),
+    ] {
+        let set = MarkSet::from_bits(bits);
+        let ends = (set.lowest().map(Mark::get), set.highest().map(Mark::get));
+        assert_eq!(rt; ends, (lowest, highest));
+    }
+}
+
+// The bits of the set of marks 1 and 32, how many they are, whether it holds marks 1 and 2, and its bits without mark 1.
+fn ends() -> Result<(u32, u32, [bool; 2], u32), Refusal> {
     let (first, last) = (Mark::new(1)?, Mark::new(32)?);
     let ends = MarkSet::empty().with(first).with(last);
-    assert_eq!(rt; ends.size(), 2);
-    assert_eq!(rt; ends.lowest(), Some(first));
-    assert_eq!(rt; ends.highest(), Some(last));
-    assert_eq!(rt; ends.without(first).lowest(), Some(last));
-    Ok(())
+    let held = [ends.holds(first), ends.holds(Mark::new(2)?)];
+    Ok((ends.bits(), ends.size(), held, ends.without(first).bits()))
 }
 
 #[test]
-fn sets_of_marks(rt: HostRuntime) -> Result<(), Fail> {
+fn marks_put_in_and_taken_out(rt: HostRuntime) {
+    assert_eq!(rt; ends(), Ok((0x8000_0001, 2, [true, false], 0x8000_0000)));
+}
+
+#[test]
+fn sets_of_marks(rt: HostRuntime) {
     let (a, b) = (MarkSet::from_bits(0b0110), MarkSet::from_bits(0b1010));
-    assert_eq!(rt; a.union(b).bits(), 0b1110);
-    assert_eq!(rt; a.intersection(b).bits(), 0b0010);
-    assert_eq!(rt; a.difference(b).bits(), 0b0100);
-    assert_eq!(rt; a.symmetric_difference(b).bits(), 0b1100);
-    assert!(rt; a.intersection(b).is_part_of(a));
-    assert!(rt; !a.is_part_of(b));
-    assert!(rt; a.holds(Mark::new(2)?) && !a.holds(Mark::new(1)?));
-    Ok(())
+    let made = [
+        a.union(b).bits(),
+        a.intersection(b).bits(),
+        a.difference(b).bits(),
+        a.symmetric_difference(b).bits(),
+    ];
+    assert_eq!(rt; made, [0b1110, 0b0010, 0b0100, 0b1100]);
+    let parts = (a.is_part_of(b), a.intersection(b).is_part_of(a));
+    assert_eq!(rt; parts, (false, true));
 }
 
 #[test]
 fn marks_in_turn(rt: HostRuntime) -> Result<(), Fail> {
-    let mut marks = MarkSet::from_bits(0x8000_0005).marks();
-    assert_eq!(rt; marks.next(), Some(Mark::new(1)?));
-    assert_eq!(rt; marks.next(), Some(Mark::new(3)?));
-    assert_eq!(rt; marks.next(), Some(Mark::new(32)?));
-    assert_eq!(rt; marks.next(), None);
-    assert_eq!(rt; marks.next(), None);
+    let marks = MarkSet::from_bits(0x8000_0005).marks();
+    let numbers: Vec<u32> = marks.map(Mark::get).collect(rt.alloc())?;
+    assert_eq!(rt; numbers.as_slice(), [1, 3, 32].as_slice());
     Ok(())
+}
+
+// The list order, and where a list is out of it for the first time.
+#[test]
+fn sets_in_list_order(rt: HostRuntime) {
+    let list = [11, 3, 2, 4, 0].map(MarkSet::from_bits);
+    let places = [
+        first_unordered(&list),
+        first_unordered(&[list[0], list[1], list[1]]),
+        first_unordered(&[list[1], list[0], list[2]]),
+        first_unordered(&list[..1]),
+        first_unordered::<MarkSet>(&[]),
+    ];
+    assert_eq!(rt; places, [None, Some(3), Some(2), None, None]);
 }

@@ -59,37 +59,35 @@ fn at_most_1048576_bytes(rt: HostRuntime) -> Result<(), Fail> {
     Ok(())
 }
 
-// 65,536 lines of 16 bytes are the longest sheet. With a line one byte longer it is too long.
+// 65,536 lines of 16 bytes.
 #[test]
 fn the_longest_sheet(rt: HostRuntime) -> Result<(), Fail> {
     let width = Width::new(10)?;
     let sheet = b"1 2 3 4 5 6 7 8\n".repeat(rt.alloc(), 65_536)?;
     let mut packed = vec![in rt.alloc(); 7; 262_144]?;
-    assert_eq!(rt;
-        read_sheet(sheet.as_slice(), width, packed.as_mut_slice()),
-        Ok(65_536)
-    );
+    let read = read_sheet(sheet.as_slice(), width, packed.as_mut_slice());
     let mut text = vec![in rt.alloc(); b'*'; 1_048_576]?;
-    assert_eq!(rt;
-        write_sheet(packed.as_slice(), width, text.as_mut_slice()),
-        Ok(1_048_576)
-    );
+    let written = write_sheet(packed.as_slice(), width, text.as_mut_slice());
+    assert_eq!(rt; (read, written), (Ok(65_536), Ok(1_048_576)));
     assert!(rt; text.as_slice() == sheet.as_slice());
+    Ok(())
+}
+
+// The same charges, but with a line one byte longer, and then one charge more.
+#[test]
+fn sheets_too_long(rt: HostRuntime) -> Result<(), Fail> {
+    let width = Width::new(10)?;
+    let mut packed = [255, 0, 0, 0].repeat(rt.alloc(), 65_536)?;
     // The first charge becomes `1 2 3 4 5 6 7 10`.
     for (byte, new) in packed.iter_mut().zip([127, 2]) {
         *byte = new;
     }
-    let long = Err(Refusal::unplaced(Reason::Long));
-    assert_eq!(rt;
-        write_sheet(packed.as_slice(), width, text.as_mut_slice()),
-        long
-    );
+    let mut text = vec![in rt.alloc(); b'*'; 1_048_576]?;
+    let long = write_sheet(packed.as_slice(), width, text.as_mut_slice());
     packed.extend_from_slice(&[0; 4])?;
-    let too_many = Err(Refusal::unplaced(Reason::TooMany));
-    assert_eq!(rt;
-        write_sheet(packed.as_slice(), width, text.as_mut_slice()),
-        too_many
-    );
-    assert!(rt; text.as_slice() == sheet.as_slice());
+    let too_many = write_sheet(packed.as_slice(), width, text.as_mut_slice());
+    let due = [Reason::Long, Reason::TooMany].map(|reason| Err(Refusal::unplaced(reason)));
+    assert_eq!(rt; [long, too_many], due);
+    assert!(rt; text.iter().all(|byte| *byte == b'*'));
     Ok(())
 }

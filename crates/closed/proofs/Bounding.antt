@@ -8,11 +8,12 @@ use Rattle.marks.specs.Sets.{has}
 use Rattle.marks.proofs.Algebra.{has_shr, low_same, below_from_has}
 use Rattle.marks.specs.Members.{has_past, has_below}
 use Rattle.marks.specs.SetOrder.{before_irrefl, before_trans}
-use Rattle.closed.specs.Families.{Listed, Agree, Follows, list_of, turns, turn_count}
+use Rattle.closed.specs.Families.{Listed, Agree, list_of, turns, turn_count}
 use Rattle.closed.proofs.Ordered.{place_lt, list_ordered, list_has, place_listed}
 use Rattle.closed.proofs.Walking.{agree_sym, agree_less, turn_agree}
 use Rattle.closed.proofs.Stepping.{after_turns}
 use Rattle.closed.proofs.Turning.{turns_below, turns_are}
+use Rattle.closed.proofs.WalkSteps.{Follows}
 
 -- the marks of a set below the one at b, and the others
 ones_halves : (t b : ℕ) → ones t ≡ ones (t / 2 ^ b) + ones (t % 2 ^ b)

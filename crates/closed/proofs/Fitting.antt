@@ -9,8 +9,9 @@ use Rattle.marks.specs.Members.{has_and, has_none, has_past, has_below}
 use Rattle.marks.specs.Parts.{part_fact, part_test, part_has, part_from_has, part_antisym, part_le, part_or_left, has_with}
 use Rattle.marks.proofs.Picks.{has_picked, picked_below}
 use Rattle.closed.specs.Families.{Listed, Fits, list_of, fits_node, fitting, dead, in_every, in_none}
-use Rattle.closed.specs.Walks.{Narrowed, Exact}
+use Rattle.closed.specs.Walks.{Exact}
 use Rattle.closed.proofs.Ordered.{any_some, some_any, none_any, any_none, has_filter, has_from_filter, list_has, list_only}
+use Rattle.closed.proofs.WalkSteps.{Narrowed}
 
 -- ---- a set with one mark more
 

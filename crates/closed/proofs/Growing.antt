@@ -8,7 +8,7 @@ use Rattle.marks.specs.Orders.{Before}
 use Rattle.marks.specs.Sets.{has, no_marks, with_bit, size_of}
 use Rattle.marks.specs.Sizes.{ones_with, ones_zero}
 use Rattle.closed.specs.Families.{Fits, list_of, dead, fitting, in_every, in_none, turn_count, turns}
-use Rattle.closed.specs.Walks.{Tight, Narrowed, Free, Done, Reached}
+use Rattle.closed.specs.Walks.{Tight, Reached}
 use Rattle.closed.specs.Trees.{Tree, dead_end, leaf, fork, leaves, Alive, grow, node_tree, TreeLaw}
 use Rattle.closed.proofs.Ordered.{pairs_append, has_here, list_ordered, list_has, list_only, same_listed}
 use Rattle.closed.proofs.Fitting.{fits_listed, fits_below, fits_root, fits_with, fits_with_back, fits_with_has}
@@ -17,6 +17,7 @@ use Rattle.closed.proofs.Walking.{fits_alike, done_only, done_fits, reached_root
 use Rattle.closed.proofs.Stepping.{at_none}
 use Rattle.closed.proofs.Turning.{turns_are}
 use Rattle.closed.proofs.Counting.{lefts, upto_lefts, length_nodes}
+use Rattle.closed.proofs.WalkSteps.{Narrowed, Free, Done}
 
 module _ (p : ℕ → Bool) (n : ℕ) where
   -- what is known of the tree g below the node (i, o), to which t turns lead

@@ -1,3 +1,4 @@
+pub mod WalkSteps
 pub mod Ordered
 pub mod Fitting
 pub mod Walking

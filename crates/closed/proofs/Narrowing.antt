@@ -11,12 +11,12 @@ use Rattle.marks.proofs.Picks.{has_picked, picked_below}
 use Rattle.limits.specs.Limits.{AllowsParts}
 use Rattle.tables.specs.Holding.{support_of, closure_of}
 use Rattle.closed.specs.Families.{Fits, dead}
-use Rattle.closed.specs.Walks.{Narrowed}
 use Rattle.closed.specs.Closed.{Query, closed, wanted, listed, closure_passes, narrow_in, narrow_out, ListLaws}
 use Rattle.closed.proofs.Closing.{closure_below, closure_holds, closure_grows, closure_again, support_falls, support_closure}
 use Rattle.closed.proofs.Fitting.{fits_listed, fits_lacks, fits_from, fits_with, fits_with_back, fits_with_has, fits_alive, none_dead, alive_some, in_none_below, narrowed_one, narrowed_defined}
 use Rattle.closed.proofs.Ordered.{list_ordered, list_has, list_only}
 use Rattle.closed.proofs.Turning.{turns_are}
+use Rattle.closed.proofs.WalkSteps.{Narrowed}
 
 module _ (q : Query) where
   abbrev n : ℕ

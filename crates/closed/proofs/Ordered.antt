@@ -8,7 +8,8 @@ use Rattle.std.proofs.ByRecursion.{All-append, All-map, All-weaker, all_kept_by,
 use Rattle.std.proofs.lemmas.Bool.{cases_order, cases_Bool, both_ways, or_left, or_right, or_cases}
 use Rattle.marks.specs.Orders.{Before}
 use Rattle.marks.specs.SetOrder.{before_irrefl, before_trans, before_half, before_odd}
-use Rattle.closed.specs.Families.{subsets, list_of, Listed, Follows}
+use Rattle.closed.specs.Families.{subsets, list_of, Listed}
+use Rattle.closed.proofs.WalkSteps.{Follows}
 
 -- ---- lists in an order
 

@@ -9,12 +9,13 @@ use Rattle.marks.specs.Members.{has_and, has_or, has_none, has_all_below, has_be
 use Rattle.marks.specs.Parts.{part_from_has, has_with, has_minus}
 use Rattle.marks.specs.SetOrder.{before_irrefl, before_trans}
 use Rattle.marks.specs.Sizes.{has_less, ones_less, ones_with, ones_zero, ones_part, ones_strict}
-use Rattle.closed.specs.Families.{Listed, Fits, Agree, Turn, Turns, First, Follows, list_of, part_in}
-use Rattle.closed.specs.Walks.{Tight, Narrowed, Free, Done, Reached, free_marks, aside_out, Opened, Descent, Descended, At}
+use Rattle.closed.specs.Families.{Listed, Fits, Agree, Turn, Turns, First, list_of, part_in}
+use Rattle.closed.specs.Walks.{Tight, Reached, aside_out, Opened, Descended, At}
 use Rattle.closed.proofs.Ordered.{place_listed, first_listed, next_listed, last_listed}
 use Rattle.closed.proofs.Fitting.{with_here, fits_listed, fits_has, fits_lacks, fits_from, fits_root}
 use Rattle.closed.proofs.Walking.{agree_sym, agree_less, turn_agree, first_in, first_narrowed, first_done, narrowed_in, narrowed_decided}
 use Rattle.closed.proofs.Walking.{reached_narrowed, reached_in, reached_turns, free_from}
+use Rattle.closed.proofs.WalkSteps.{Follows, Narrowed, Free, Done, free_marks, Descent}
 
 -- ---- the marks of the nodes
 

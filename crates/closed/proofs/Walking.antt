@@ -7,9 +7,10 @@ use Rattle.marks.specs.Members.{has_none, has_past}
 use Rattle.marks.specs.Parts.{part_from_has, part_antisym, same_members, has_with}
 use Rattle.marks.specs.SetOrder.{before_irrefl, before_trans}
 use Rattle.closed.specs.Families.{Listed, Fits, Agree, Turn, Turns, First}
-use Rattle.closed.specs.Walks.{Tight, Narrowed, Free, Done, Reached}
+use Rattle.closed.specs.Walks.{Tight, Reached}
 use Rattle.closed.proofs.Fitting.{with_here, with_cases, fits_listed, fits_has, fits_lacks, fits_decided, fits_root}
 use Rattle.closed.proofs.Fitting.{fits_with, fits_with_back, fits_with_has, fits_without, narrowed_all_in, narrowed_none_out}
+use Rattle.closed.proofs.WalkSteps.{Narrowed, Free, Done}
 
 -- ---- agreement
 

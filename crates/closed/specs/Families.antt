@@ -82,15 +82,9 @@ pub record Turns (p : ℕ → Bool) (n x t : ℕ) : Type 0 where
   pub turn : (b : ℕ) → has t b ≡ true → Turn p n x b
   pub only : (b : ℕ) → has x b ≡ true → Turn p n x b → has t b ≡ true
 
--- ---- the first that fits a node, and the one that follows a set
+-- ---- the first that fits a node
 
 -- y fits the node (i, o), and no set of the family that fits it comes before y
 pub record First (p : ℕ → Bool) (n i o y : ℕ) : Type 0 where
   pub fits : Fits p n i o y
   pub none_before : (z : ℕ) → Fits p n i o z → Before z y → ⊥
-
--- y is the next set of the family after x, which need not be of the family itself
-pub record Follows (p : ℕ → Bool) (n x y : ℕ) : Type 0 where
-  pub listed : Listed p n y
-  pub after : Before x y
-  pub between : (z : ℕ) → Listed p n z → Before x z → Before z y → ⊥

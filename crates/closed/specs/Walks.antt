@@ -1,6 +1,6 @@
 -- A walk over the nodes of a family, from one that fits to the next.
 use Rattle.std.specs.Prelude.{◌≡◌, ℕ, ◌+◌, ◌-◌, ◌*◌, ◌<◌, ◌≤◌, Bool, true, false, ◌||◌, length, slice_index_or}
-use Rattle.marks.specs.Sets.{has, either, minus, all_below, with_bit, size_of}
+use Rattle.marks.specs.Sets.{has, minus, all_below, with_bit, size_of}
 use Rattle.closed.specs.Families.{Listed, Fits, Agree, Turn, Turns, First, list_of}
 
 -- The marks of the node (i, o) are all that the sets that fit it have in common: some set fits, a mark that is not put out is in one that does, and one
@@ -11,12 +11,6 @@ pub record Tight (p : ℕ → Bool) (n i o : ℕ) : Type 0 where
   pub with_it : (b : ℕ) → b < n → has o b ≡ false → (x : ℕ) × Fits p n i o x × (has x b ≡ true)
   pub without_it : (b : ℕ) → b < n → has i b ≡ false → (x : ℕ) × Fits p n i o x × (has x b ≡ false)
 
--- the node (i, o) narrowed to (u, v): the same sets fit, and u and v are all that they have in common
-pub record Narrowed (p : ℕ → Bool) (n i o u v : ℕ) : Type 0 where
-  pub keeps : (z : ℕ) → Fits p n i o z → Fits p n u v z
-  pub same : (z : ℕ) → Fits p n u v z → Fits p n i o z
-  pub tight : Tight p n u v
-
 -- u has just the marks that are in every set that fits the node (i, o), and v those below n that are in none
 pub record Exact (p : ℕ → Bool) (n i o u v : ℕ) : Type 0 where
   pub in_all : (b : ℕ) → has u b ≡ true → (z : ℕ) → Fits p n i o z → has z b ≡ true
@@ -24,21 +18,6 @@ pub record Exact (p : ℕ → Bool) (n i o u v : ℕ) : Type 0 where
   pub out_below : (b : ℕ) → has v b ≡ true → b < n
   pub out_none : (b : ℕ) → has v b ≡ true → (z : ℕ) → Fits p n i o z → has z b ≡ false
   pub none_out : (b : ℕ) → b < n → ((z : ℕ) → Fits p n i o z → has z b ≡ false) → has v b ≡ true
-
--- f is the lowest mark below n that is neither put in nor put out
-pub record Free (n i o f : ℕ) : Type 0 where
-  pub below : f < n
-  pub not_in : has i f ≡ false
-  pub not_out : has o f ≡ false
-  pub decided : (j : ℕ) → j < f → (has i j || has o j) ≡ true
-
--- every mark below n is put in or put out
-abbrev pub Done : ℕ → ℕ → ℕ → Type 0
-Done n i o = (j : ℕ) → j < n → (has i j || has o j) ≡ true
-
--- the marks below n that are neither
-abbrev pub free_marks : ℕ → ℕ → ℕ → ℕ
-free_marks n i o = minus (all_below n) (either i o)
 
 -- the marks below the one at b that x lacks, and that one: with the marks of x below b put in, these put out are the node of the sets that turn aside from x at b
 abbrev pub aside_out : ℕ → ℕ → ℕ
@@ -57,16 +36,6 @@ pub record Reached (p : ℕ → Bool) (n q i o t : ℕ) : Type 0 where
 -- c nodes were opened up to the k-th set, which has t turns: c is 2 k - 1 + t
 abbrev pub Opened : ℕ → ℕ → ℕ → Type 0
 Opened k t c = c + 1 ≡ 2 * k + t
-
--- A descent for the k-th set has come from the node (i₀, o₀), all of whose marks below q₀ are decided and at which c₀ nodes were opened, to the node (i, o),
--- with the turns t and c nodes opened.
-pub record Descent (p : ℕ → Bool) (n k c₀ q₀ i₀ o₀ i o t c : ℕ) : Type 0 where
-  pub upto : ℕ
-  pub reached : Reached p n upto i o t
-  pub tight : Tight p n i o
-  pub leads : (y : ℕ) → First p n i o y → First p n i₀ o₀ y
-  pub opened : Opened k (size_of t) c
-  pub grown : c + q₀ ≤ c₀ + upto
 
 -- What the descent finds: x is the first set that fits the node at which it began, with the turns t; and c nodes are then opened, at most one for each mark from q₀ on.
 pub record Descended (p : ℕ → Bool) (n k c₀ q₀ i₀ o₀ x t c : ℕ) : Type 0 where

@@ -7,11 +7,11 @@ use Rattle.marks.specs.Sets.{has, no_marks, all_below, both, either, minus, part
 use Rattle.marks.proofs.Algebra.{disjoint_from_has}
 use Rattle.marks.specs.Parts.{part_test, part_all_below, part_from_has, part_le}
 use Rattle.closed.specs.Families.{Fits}
-use Rattle.closed.specs.Walks.{Narrowed, Free, Done, Descent, free_marks}
 use Rattle.closed.specs.Closed.{Query, listed, clash, narrow_refusal, narrow_in, narrow_out}
 use Rattle.closed.proofs.Fitting.{fits_has, fits_lacks, fits_with, fits_below, fits_alive, in_every_below, in_none_below}
 use Rattle.closed.proofs.Narrowing.{narrow_exact}
 use Rattle.closed.proofs.Stepping.{small_below, free_lowest, free_none, free_falls, descent_step, descent_done}
+use Rattle.closed.proofs.WalkSteps.{Narrowed, Free, Done, Descent, free_marks}
 use Rattle.finder.specs.declared.finder.descent.Start.{Start}
 use Rattle.finder.specs.declared.narrowing.Node.{Node}
 use Rattle.finder.specs.Descents.{opened_node, unless, one_more, Ready, Begun, Landed}

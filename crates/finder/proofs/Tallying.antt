@@ -11,9 +11,9 @@ use Rattle.marks.proofs.Enumerated.{Follows}
 use Rattle.marks.specs.Members.{has_none, has_below}
 use Rattle.marks.specs.Parts.{part_fact, part_test, part_has, part_trans, has_with, has_minus, has_without, part_or_left, with_part}
 use Rattle.tables.specs.declared.holding.Holding.{Holding}
-use Rattle.tables.specs.Holding.{held_by, holding_of, unheld, joined, ending_after}
+use Rattle.tables.specs.Holding.{held_by, holding_of, unheld, joined}
 use Rattle.tables.specs.Meaning.{Meaning, Proper, count_of}
-use Rattle.tables.proofs.Passing.{holding_none, holding_more}
+use Rattle.tables.proofs.Passing.{ending_after, holding_none, holding_more}
 use Rattle.finder.specs.declared.tally.Tally.{Tally}
 use Rattle.closed.specs.Closed.{above}
 use Rattle.closed.proofs.Closing.{unheld_above}

@@ -13,12 +13,13 @@ use Rattle.marks.specs.Sizes.{without_is}
 use Rattle.tables.specs.Meaning.{Proper}
 use Rattle.tables.specs.Holding.{support_of}
 use Rattle.closed.specs.Families.{Fits, part_in, turns, turn_count}
-use Rattle.closed.specs.Walks.{Narrowed, Reached, Opened, Descended, At, aside_out}
+use Rattle.closed.specs.Walks.{Reached, Opened, Descended, At, aside_out}
 use Rattle.closed.specs.Closed.{Query, listed, the_list, above, narrow_refusal}
 use Rattle.closed.proofs.Fitting.{alive_some}
 use Rattle.closed.proofs.Stepping.{small_below, has_aside_out, aside_some, reached_aside, opened_root, opened_out, at_listed, at_first, at_next, at_last, at_none}
 use Rattle.closed.proofs.Turning.{turns_are, at_turns}
 use Rattle.closed.proofs.Walking.{first_narrowed, reached_root, reached_narrowed}
+use Rattle.closed.proofs.WalkSteps.{Narrowed}
 use Rattle.finder.specs.declared.finder.Last.{Last}
 use Rattle.finder.specs.declared.finder.descent.Start.{Start}
 use Rattle.finder.specs.declared.narrowing.Node.{Node}

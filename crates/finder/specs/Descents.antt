@@ -55,7 +55,7 @@ TurnedAside q x turns opened start opened' =
     ((turns ≡ no_marks) × (start ≡ None) × (opened' ≡ opened))
     ⊎ ((b : ℕ) × Highest turns b × (start ≡ start_of (opened_node q (part_in x b) (aside_out x b)) (without_bit turns b)) × (opened' ≡ one_more opened))
 
--- What is opened to go on from the k-th set: nothing, and then the list is out and so many nodes are opened; or a node from which a descent for the next set may begin, and
+-- What is opened to go on from the k-th set: no node that a set fits, and then the list is out and so many nodes are opened; or a node from which a descent for the next set may begin, and
 -- what such a descent finds is the next set.
 abbrev pub Turned : Query → ℕ → Option Start → ℕ → Type 0
 Turned q k None opened = (k ≡ how_many q) × (opened ≡ opened_at_end q k)

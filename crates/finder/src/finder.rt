@@ -60,6 +60,7 @@ impl<T: Table, W: Limit> Finder<T, W> {
     pub fn next(&mut self, slot: &mut [u8]) -> Result<Step, Refusal>
         ensures { NextDone self.old slot.old result slot.new self.new }
     {
+        // Judged before a node is opened, so that the write below is not refused.
         if slot.len() < RECORD_BYTES {
             return Err(Refusal::unplaced(Reason::ShortSlot));
         }

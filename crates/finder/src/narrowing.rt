@@ -50,7 +50,7 @@ impl<T: Table, W: Limit> Query<T, W> {
             && holding.closure().intersection(outs).is_empty()
     }
 
-    // The marks up to the width with which no listed set fits. With a mark that is put in, the set that fits at all does.
+    // The marks up to the width that are in no listed set that fits. A mark that is put in is in each of them. One that is put out was skipped by the tally: its record has support 0, so it is in none.
     fn excluded(&self, tally: &Tally, ins: MarkSet, outs: MarkSet) -> MarkSet
         ensures { result.bits ≡ picked (λ b. not (has ins.bits b) && not (holding_passes (asked T.Table.meaning W.Limit.allowed self.now) outs.bits (slice_index_or tally.now.marks b no_holding))) (T.Table.meaning self.now.table).width }
     {

@@ -13,6 +13,7 @@ pub struct Within {
 }
 
 impl Within {
+    /// The limit that allows the sets of these marks.
     pub fn new(marks: MarkSet) -> Within
         ensures { result.marks ≡ marks }
     {

@@ -13,6 +13,7 @@ pub struct Both<L, R> {
 }
 
 impl<L: Limit, R: Limit> Both<L, R> {
+    /// The limit that allows what both allow.
     pub fn new(one: L, other: R) -> Both<L, R>
         ensures { result ≡ record { one = one; other = other } }
     {

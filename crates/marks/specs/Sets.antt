@@ -36,7 +36,7 @@ both s t = bit_and s t
 abbrev pub differing : ℕ → ℕ → ℕ
 differing s t = bit_xor s t
 
--- the marks that are in s and not in t, for a set t of marks up to the last
+-- the marks that are in s and not in t, for sets s and t of marks up to the last
 abbrev pub minus : ℕ → ℕ → ℕ
 minus s t = both s (all_below most_marks - t)
 

@@ -65,6 +65,7 @@ impl<K, const MOST: u32> Number<K, MOST> {
         }
     }
 
+    /// The number itself.
     pub fn get(self) -> u32
         ensures value { result ≡ self.number }
         ensures range { InRange MOST result }

@@ -78,13 +78,14 @@ impl Refusal {
         }
     }
 
+    /// The reason.
     pub fn reason(self) -> Reason
         ensures { result ≡ self.reason }
     {
         self.reason
     }
 
-    // A method for the same reason.
+    // A method and not `From`, as `Reason::number` is.
     /// The number of its reason.
     pub fn number(self) -> u64
         ensures { result ≡ number_of self.reason }

@@ -24,7 +24,7 @@ fn write_list<T: Table, W: Limit>(
 {
     let mut finder = Finder::begin(table, limit, support);
     let places = memory.len() / RECORD_BYTES;
-    // No call is refused, since each slot has the length of a record.
+    // No call is refused, since each slot has the length of a record. By offset: of memory that is lent as chunks no proof learns what it then holds.
     for place in 0..places {
         let start = RECORD_BYTES * place;
         match finder

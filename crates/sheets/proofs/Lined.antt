@@ -11,7 +11,7 @@ use Rattle.marks.specs.Memory.{put_in_front}
 use Rattle.marks.specs.Numbers.{most_marks, bit_of}
 use Rattle.marks.specs.Sets.{has, bits_below}
 use Rattle.marks.proofs.Enumerated.{bits_start, bits_more}
-use Rattle.tables.specs.Holding.{ending_after}
+use Rattle.tables.proofs.Passing.{ending_after}
 use Rattle.tables.specs.Meaning.{Meaning, count_of, row_of}
 use Rattle.sheets.specs.Rendering.{marks_of, spaced_marks, row_text, render}
 

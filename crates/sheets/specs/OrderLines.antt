@@ -5,6 +5,7 @@ use Rattle.marks.specs.declared.refusal.Reason.TheVariants.{Form, Range}
 use Rattle.marks.specs.declared.refusal.Refusal.{Refusal}
 use Rattle.marks.specs.Numbers.{most_marks, most_charges}
 use Rattle.marks.specs.Refusals.{Answers, placed_at_two, due_if}
+use Rattle.sheets.specs.Cutting.{blank, line_end}
 use Rattle.sheets.specs.Digits.{most_digits, leading_digits}
 use Rattle.sheets.specs.Reading.{worth}
 use Rattle.sheets.specs.declared.order.Order.{Order}
@@ -13,7 +14,7 @@ use Rattle.sheets.specs.declared.order.Order.{Order}
 
 -- what ends each of the five numbers of an order line: a blank, and the line end after the last
 abbrev pub number_ends : List ℕ
-number_ends = 32 ∷ 32 ∷ 32 ∷ 32 ∷ 10 ∷ []
+number_ends = blank ∷ blank ∷ blank ∷ blank ∷ line_end ∷ []
 
 -- each number in decimal, and what ends it
 abbrev pub ended_numbers : List ℕ → List ℕ → List ℕ

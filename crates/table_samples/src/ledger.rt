@@ -14,6 +14,7 @@ pub struct Ledger {
 }
 
 impl Ledger {
+    /// The table of these rows, each a set as a number.
     pub fn new(rows: Vec<u32>, width: Width) -> Ledger
         ensures { result ≡ record { rows = rows; width = width } }
     {

@@ -13,7 +13,11 @@ use Rattle.marks.specs.Sets.{all_below}
 use Rattle.marks.proofs.Counting.{left, comes, all_passed}
 use Rattle.tables.specs.declared.holding.Holding.{Holding}
 use Rattle.tables.specs.Meaning.{Meaning, Proper, count_of, row_of}
-use Rattle.tables.specs.Holding.{held_by, support_of, closure_of, holding_of, unheld, joined, ending_after}
+use Rattle.tables.specs.Holding.{held_by, support_of, closure_of, holding_of, unheld, joined}
+
+-- the table that ends after k charges
+abbrev pub ending_after : ℕ → Meaning → Meaning
+ending_after k m = record { width = m.width; rows = take k m.rows }
 
 -- what is left to come
 abbrev pub to_come : Charges → List ℕ

@@ -22,7 +22,7 @@ words_per_mark m = (m + (word_bits - 1)) / word_bits
 abbrev pub column_has : List ℕ → ℕ → ℕ → ℕ → Bool
 column_has words per b t = has (slice_index words (b * per + t / word_bits)) (t % word_bits)
 
--- the rows of n marks and m charges
+-- the row of n marks of the charge at the place t, which counts from 0; and the rows of m charges
 abbrev pub column_row : List ℕ → ℕ → ℕ → ℕ → ℕ
 column_row words per n t = picked (λ b. column_has words per b t) n
 

@@ -1,5 +1,5 @@
 -- The charges that hold a set of marks: how many there are, and what they share.
-use Rattle.std.specs.Prelude.{ℕ, ◌+◌, ◌-◌, ◌^◌, min, Bool, List, length, take, fold, filter, bit_and}
+use Rattle.std.specs.Prelude.{ℕ, ◌+◌, ◌-◌, ◌^◌, min, Bool, List, length, fold, filter, bit_and}
 use Rattle.marks.specs.Sets.{part_of, all_below, both}
 use Rattle.tables.specs.declared.holding.Holding.{Holding}
 use Rattle.tables.specs.Meaning.{Meaning}
@@ -30,7 +30,3 @@ unheld n = record { support = 0; closure = record { bits = all_below n } }
 
 abbrev pub joined : ℕ → Holding → Holding
 joined row h = record { support = min (h.support + 1) (2 ^ 32 - 1); closure = record { bits = both h.closure.bits row } }
-
--- the table that ends after k charges
-abbrev pub ending_after : ℕ → Meaning → Meaning
-ending_after k m = record { width = m.width; rows = take k m.rows }

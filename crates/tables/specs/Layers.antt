@@ -22,7 +22,7 @@ windowed first count m = record { width = m.width; rows = take count (drop (firs
 abbrev pub chosen_from : List ℕ → ℕ → ℕ
 chosen_from marks row = picked (λ j. has row (bit_of (slice_index marks j))) (length marks)
 
--- the marks of a list
+-- the table that shows the marks of a list, in its order
 unfoldable pub selected : List ℕ → Meaning → Meaning
 selected marks m = record { width = length marks; rows = map (chosen_from marks) m.rows }
 
@@ -34,7 +34,7 @@ occurs x list = is_some (first_place (nat_eq x) list)
 abbrev pub repeats : List ℕ → ℕ → Bool
 repeats marks i = occurs (slice_index marks i) (take i marks)
 
--- no mark
+-- the number is no mark
 abbrev pub outside : ℕ → Bool
 outside mark = not (in_range most_marks mark)
 

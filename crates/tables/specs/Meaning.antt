@@ -7,7 +7,7 @@ pub record Meaning : Type 0 where
   pub width : ℕ
   pub rows : List ℕ
 
--- A meaning is proper if its width is one, its rows are few enough to be charges, and no row has a mark above the width.
+-- A meaning is proper if its width is 1 to 32, its rows are few enough to be charges, and no row has a mark above the width.
 pub record Proper (m : Meaning) : Type 0 where
   pub wide : InRange most_marks m.width
   pub few : length m.rows ≤ most_charges

@@ -54,12 +54,14 @@ impl Holding {
         }
     }
 
+    /// How many charges hold the set.
     pub fn support(self) -> u32
         ensures { result ≡ self.support }
     {
         self.support
     }
 
+    /// The marks up to the width that these charges share.
     pub fn closure(self) -> MarkSet
         ensures { result ≡ self.closure }
     {

@@ -67,6 +67,7 @@ impl Table for Packed<'_> {
         self.rows.len() as u32
     }
 
+    // By index, once the charge is known to be there: by `get` each row costs one test more.
     fn row(&self, charge: Charge) -> MarkSet {
         if charge.get() > self.count() {
             return MarkSet::empty();

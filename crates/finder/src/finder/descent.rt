@@ -58,7 +58,7 @@ impl<T: Table, W: Limit> Query<T, W> {
             mut node,
             mut turns,
         } = start;
-        // A search and no walk: which mark comes next depends on the node that was opened last.
+        // A `while let` and no `for`: which mark comes next depends on the node that was opened last.
         while let Some(mark) = node.free(all).lowest() {
             node = self.open(node.ins.with(mark), node.outs, opened).unwrap();
             turns = turns.with(mark);
@@ -99,7 +99,7 @@ impl<T: Table, W: Limit> Query<T, W> {
 
 impl<T: Table, W: Limit> Finder<T, W> {
     // Opens the node below which the next set lies: the root if no set came yet, and else the node at the highest mark where one is still to be opened, with that mark put
-    // out. None if there is no such node, and so no set.
+    // out. None if there is no such node, or no set fits the root: then no set is left.
     pub(crate) fn turn(&self, opened: &mut u64) -> Option<Start>
         ensures ready { IfSome result (λ start. Ready (query_of self.now) start.node) }
         ensures turned { opened.old ≡ option_map_or (λ last. last.found.opened) self.now.last 0 → Turned (query_of self.now) (ordinal_of self.now.last) result opened.new }

@@ -1,11 +1,11 @@
 // A list of marks to choose.
-ghost use Rattle.std.specs.Prelude.{◌≡◌, not, length, slice_index};
+ghost use Rattle.std.specs.Prelude.{◌≡◌, length, slice_index};
 ghost use Rattle.std.specs.List.{range_with_len};
-ghost use Rattle.marks.specs.Numbers.{most_marks, InRange, in_range};
+ghost use Rattle.marks.specs.Numbers.{most_marks, InRange};
 ghost use Rattle.marks.specs.Places.{first_place};
 ghost use Rattle.marks.specs.Refusals.{Answers};
 ghost use Rattle.tables.specs.Chosen.{chosen};
-ghost use Rattle.tables.specs.Layers.{repeats, choice_refusal, chosen_from};
+ghost use Rattle.tables.specs.Layers.{outside, repeats, choice_refusal, chosen_from};
 
 use marks::{MARKS, Mark, MarkSet, Reason, Refusal, Width, first_passing};
 use std::array;
@@ -21,14 +21,14 @@ pub struct Choice {
 
 // Whether a number is no mark.
 fn is_outside(number: u64) -> bool
-    ensures { result ≡ not (in_range most_marks number) }
+    ensures { result ≡ outside number }
 {
     Mark::new(number).is_err()
 }
 
 // The place of the first number that is no mark.
 fn first_outside(numbers: &[u64]) -> Option<u64>
-    ensures { result ≡ first_place (λ mark. not (in_range most_marks mark)) numbers.now }
+    ensures { result ≡ first_place outside numbers.now }
 {
     first_passing(numbers, |number| is_outside(*number))
 }

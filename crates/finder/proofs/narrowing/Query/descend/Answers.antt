@@ -1,11 +1,11 @@
 use Rattle.std.proofs.Common.{◌≡◌, ◌<◌, Some, None, Option, IsSome, refl, sym, subst}
 use Rattle.marks.specs.Numbers.{bit_of}
 use Rattle.marks.specs.Sets.{size_of}
-use Rattle.closed.specs.Walks.{free_marks}
 use Rattle.finder.specs.declared.narrowing.Node.{Node}
 use Rattle.finder.specs.Asked.{asked}
 use Rattle.finder.proofs.Descending.{ready_free, ready_done, child_is, child_there, child_falls, descending_more, descending_done}
 use Rattle.finder.proofs.narrowing.Query.descend.Goals as goal
+use Rattle.closed.proofs.WalkSteps.{free_marks}
 
 there : {A : Type 0} (o : Option A) → (o ≡ None → ⊥) → IsSome o
 there None gone = absurd (gone refl)

@@ -1,8 +1,8 @@
 use Rattle.marks.specs.Sets.{size_of}
-use Rattle.closed.specs.Walks.{free_marks}
 use Rattle.finder.specs.Asked.{asked}
 use Rattle.finder.proofs.Descending.{Descending}
 use Rattle.finder.proofs.narrowing.Query.descend.Given as goal
+use Rattle.closed.proofs.WalkSteps.{free_marks}
 
 abbrev pub invariant-loop-mark : goal.invariant-loop-mark
 invariant-loop-mark g l =

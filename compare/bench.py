@@ -36,7 +36,7 @@ class Case:
         lines = [f"{self.marks} {support} {self.marks} 1 {self.charges}"]
         for _ in range(self.charges):
             held = (mark for mark in range(1, self.marks + 1) if chance.random() < 1 / 3)
-            lines.append(" ".join(map(str, held)))
+            lines.append(" ".join(map(str, held)) or "0")
         return ("\n".join(lines) + "\n").encode()
 
 

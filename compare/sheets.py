@@ -1,7 +1,8 @@
 """Order lines and sheets, judged by what they are and not by how a reader would go over them.
 
-An order line is held against the regular expression of all beginnings of right lines. A line of a sheet is searched for
-every fault that it has, wherever it stands, and the leftmost is told.
+An order line is held against the regular expression of all beginnings of right lines. Of a sheet the empty lines are passed
+over. Every other line is searched for all faults that it has, wherever they stand, and the leftmost is told; a line
+without faults is a charge.
 """
 
 from __future__ import annotations
@@ -27,6 +28,9 @@ RIGHT_ORDER = re.compile(rb"(?:%b ){4}%b\n" % (ORDER_NUMBER, ORDER_NUMBER))
 ORDER_BEGINNING = re.compile(rb"(?:%b ){0,4}%b?" % (ORDER_NUMBER, ORDER_NUMBER))
 
 LINE = re.compile(rb"[^\n]*\n|[^\n]+")
+EMPTY_LINE = b"\n"
+# The line of a charge without marks, with its end and without.
+NO_MARKS = (b"0\n", b"0")
 NUMBER = re.compile(rb"[0-9]+")
 BAD_BYTE = re.compile(rb"[^0-9 \n]")
 BAD_BLANK = re.compile(rb"\A |(?<= ) | (?=\n)")
@@ -105,11 +109,13 @@ def range_fault(text: bytes) -> Fault | None:
 
 
 def read_sheet(text: bytes, width: int, room: int) -> Sheet:
-    """The charges of a sheet, where at most `room` of them can be packed."""
+    """The charges of a sheet, where at most `room` of them can be packed. An empty line is none, yet is counted as a line."""
     if len(text) > MOST_SHEET_BYTES:
         return Sheet((), Fault(Reason.LONG))
     charges: list[Marks] = []
     for number, line in enumerate(LINE.findall(text), 1):
+        if line == EMPTY_LINE:
+            continue
         faults = [*line_faults(line, width), *end_faults(line, len(charges), room)]
         if faults:
             column, reason = min(faults)
@@ -128,11 +134,13 @@ def line_faults(line: bytes, width: int) -> tuple[tuple[int, Reason], ...]:
 @lru_cache(maxsize=256)
 def charge(line: bytes) -> Marks:
     """The marks of a line without faults."""
-    return frozenset(map(int, NUMBER.findall(line)))
+    return frozenset() if line in NO_MARKS else frozenset(map(int, NUMBER.findall(line)))
 
 
 def number_faults(line: bytes, width: int) -> Iterator[tuple[int, Reason]]:
-    """The faults of the numbers of a line, each at the first digit of its number."""
+    """The faults of the numbers of a line, each at the first digit of its number. A 0 that is the whole line has none."""
+    if line in NO_MARKS:
+        return
     left = None
     for number in NUMBER.finditer(line):
         column, digits = number.start() + 1, number.group()

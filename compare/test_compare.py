@@ -10,9 +10,9 @@ from collections.abc import Iterator
 import inputs
 import run
 from closed import Limit, Listing, Table, at_most, every_set, list_sets, listed_sets, shared_sets
-from listing import ROOM, TOO_LONG, printed
+from listing import TOO_LONG, printed
 from panel import REFUSED, host_list, host_read, packed_row
-from sheets import Fault, Marks, Order, Reason, read_order, read_sheet
+from sheets import Fault, Marks, Order, Reason, Sheet, read_order, read_sheet
 
 SHEET = inputs.SAMPLE_SHEET
 CHARGES = read_sheet(SHEET, 5, room=5).charges
@@ -122,6 +122,111 @@ def turns(marks: Marks, listed: list[Marks]) -> int:
     )
 
 
+class LinesOfSheets(unittest.TestCase):
+    """What sheets are and where their faults stand, worked out by hand from the rules. The width is 5."""
+
+    def assert_read(self, text: bytes, charges: list[Marks], fault: Fault | None = None, room: int = 9) -> None:
+        self.assertEqual(read_sheet(text, 5, room), Sheet(tuple(charges), fault), text[-40:])
+
+    def test_an_empty_line_is_no_charge(self) -> None:
+        self.assert_read(b"", [])
+        self.assert_read(b"\n", [])
+        self.assert_read(b"\n\n\n", [])
+        self.assert_read(b"\n1 2\n", sets("12"))
+        self.assert_read(b"1 2\n\n3\n", sets("12", "3"))
+        self.assert_read(b"1 2\n3\n\n", sets("12", "3"))
+        self.assert_read(b"\n\n1 2\n\n\n\n3\n\n\n", sets("12", "3"))
+        self.assert_read(b"5\n\n1\n", sets("5", "1"))
+
+    def test_a_0_alone_on_its_line_is_a_charge_without_marks(self) -> None:
+        self.assert_read(b"0\n", sets(""))
+        self.assert_read(b"0\n0\n0\n", sets("", "", ""))
+        self.assert_read(b"0\n1 2\n0\n5\n", sets("", "12", "", "5"))
+        self.assert_read(b"\n0\n\n\n0\n\n", sets("", ""))
+
+    def test_an_unfinished_0_lacks_its_line_end(self) -> None:
+        self.assert_read(b"0", [], Fault(Reason.NO_LINE_END, 1, 2))
+        self.assert_read(b"\n\n0", [], Fault(Reason.NO_LINE_END, 3, 2))
+        self.assert_read(b"1 2\n0\n0", sets("12", ""), Fault(Reason.NO_LINE_END, 3, 2))
+        self.assert_read(b"0", [], Fault(Reason.NO_LINE_END, 1, 2), room=0)
+
+    def test_any_other_number_that_starts_with_0_is_none(self) -> None:
+        for line in (b"00", b"000", b"01", b"05", b"0 ", b"0 0", b"0 1", b"0 6", b"0x", b"0\r", b"0\t", b"0\x00", b"0 x"):
+            for end in (b"\n", b""):
+                self.assert_read(line + end, [], Fault(Reason.BAD_NUMBER, 1, 1))
+                self.assert_read(b"0\n\n" + line + end, sets(""), Fault(Reason.BAD_NUMBER, 3, 1))
+        for line in (b"1 0", b"1 00", b"1 02", b"1 0 2", b"1 0x", b"1 0 "):
+            for end in (b"\n", b""):
+                self.assert_read(line + end, [], Fault(Reason.BAD_NUMBER, 1, 3))
+
+    def test_a_fault_left_of_a_0_comes_first(self) -> None:
+        self.assert_read(b" 0\n", [], Fault(Reason.BAD_BLANK, 1, 1))
+        self.assert_read(b" 0", [], Fault(Reason.BAD_BLANK, 1, 1))
+        self.assert_read(b"x0\n", [], Fault(Reason.BAD_BYTE, 1, 1))
+        self.assert_read(b"\r\n0\n", [], Fault(Reason.BAD_BYTE, 1, 1))
+        self.assert_read(b"2 1 0\n", [], Fault(Reason.BAD_RISE, 1, 3))
+
+    def test_an_empty_line_counts_where_a_fault_is_placed(self) -> None:
+        self.assert_read(b"\n\n6\n", [], Fault(Reason.BAD_NUMBER, 3, 1))
+        self.assert_read(b"\n2 1\n", [], Fault(Reason.BAD_RISE, 2, 3))
+        self.assert_read(b"3\n\n \n", sets("3"), Fault(Reason.BAD_BLANK, 3, 1))
+        self.assert_read(b"3\n\n\n1 x\n", sets("3"), Fault(Reason.BAD_BYTE, 4, 3))
+        self.assert_read(b"\n\n1 2", [], Fault(Reason.NO_LINE_END, 3, 4))
+
+    def test_only_a_charge_needs_a_place(self) -> None:
+        self.assert_read(b"\n\n", [], room=0)
+        self.assert_read(b"\n\n0\n", [], Fault(Reason.NO_PLACE, 3, 2), room=0)
+        self.assert_read(b"\n0\n\n1 2\n\n\n", sets("", "12"), room=2)
+        self.assert_read(b"\n0\n\n1 2\n\n\n0\n", sets("", "12"), Fault(Reason.NO_PLACE, 7, 2), room=2)
+        self.assert_read(b"0\n\n3 4 5\n", sets(""), Fault(Reason.NO_PLACE, 3, 6), room=1)
+        self.assert_read(b"0\n\n0", sets(""), Fault(Reason.NO_LINE_END, 3, 2), room=1)
+        self.assert_read(b"0\n\n00\n", sets(""), Fault(Reason.BAD_NUMBER, 3, 1), room=1)
+
+    def test_charges_are_counted_up_to_the_most(self) -> None:
+        # 65,536 charges on 131,072 lines.
+        text, charges = b"\n0\n" * 65_536, sets("") * 65_536
+        self.assert_read(text, charges, room=65_536)
+        self.assert_read(text + b"\n\n", charges, room=65_536)
+        self.assert_read(text + b"\n\n1 2\n", charges, Fault(Reason.TOO_MANY, 131_075, 4), room=65_537)
+        self.assert_read(text + b"0\n", charges, Fault(Reason.TOO_MANY, 131_073, 2), room=65_536)
+        self.assert_read(text + b"\n0", charges, Fault(Reason.NO_LINE_END, 131_074, 2), room=65_537)
+        self.assert_read(text + b"01\n", charges, Fault(Reason.BAD_NUMBER, 131_073, 1), room=65_537)
+        self.assert_read(text, charges[:-1], Fault(Reason.NO_PLACE, 131_072, 2), room=65_535)
+
+    def test_a_text_may_be_long_by_its_empty_lines(self) -> None:
+        self.assert_read(b"\n" * 1_048_576, [])
+        self.assert_read(b"\n" * 1_048_574 + b"0\n", sets(""))
+        self.assert_read(b"\n" * 1_048_574 + b"0\n", [], Fault(Reason.NO_PLACE, 1_048_575, 2), room=0)
+        self.assert_read(b"\n" * 1_048_577, [], Fault(Reason.LONG))
+
+    def test_the_program(self) -> None:
+        self.assertEqual(printed(b"5 1 5 1 5\n\n0\n\n1\n"), b"1 (1)\n(2)\nsets 2 opened 3\n")
+        self.assertEqual(printed(b"5 1 5 1 5\n\n\n\n"), b"sets 0 opened 1\n")
+        self.assertEqual(printed(b"5 1 5 1 5\n0\n"), b"(1)\nsets 1 opened 1\n")
+        self.assertEqual(printed(b"5 1 5 2 1\n1\n\n2\n\n3\n"), b"2 (1)\nsets 1 opened 1\n")
+        self.assertEqual(printed(b"5 1 5 1 5\n\n0"), b"fault 7 line 2 column 2\n")
+        self.assertEqual(printed(b"5 1 5 1 5\n\n0\n1 0\n"), b"fault 4 line 3 column 3\n")
+
+    def test_the_room_of_the_program(self) -> None:
+        order, full = b"1 1 1 1 65536\n", b"1\n" * 4_096
+        self.assertEqual(printed(order + full), b"1 (4096)\nsets 1 opened 1\n")
+        self.assertEqual(printed(order + full + b"\n\n\n"), b"1 (4096)\nsets 1 opened 1\n")
+        self.assertEqual(printed(order + full + b"1\n"), b"fault 9 line 4097 column 2\n")
+        self.assertEqual(printed(order + full + b"\n\n0\n"), b"fault 9 line 4099 column 2\n")
+        self.assertEqual(printed(order + full + b"\n\n0"), b"fault 7 line 4099 column 2\n")
+        self.assertEqual(printed(order + b"\n" * 9_000 + full), b"1 (4096)\nsets 1 opened 1\n")
+        self.assertEqual(printed(order + b"\n" * 9_000 + full + b"0\n"), b"fault 9 line 13097 column 2\n")
+
+    def test_the_panel(self) -> None:
+        self.assertEqual(host_read(b"\n0\n\n1 3\n", 5, b"123456789"), (2, b"\x00\x00\x00\x00\x05\x00\x00\x009"))
+        self.assertEqual(host_read(b"\n\n", 5, b"kept"), (0, b"kept"))
+        self.assertEqual(host_read(b"\n\n0\n", 5, b"123"), (REFUSED + 9, b"123"))
+        self.assertEqual(host_read(b"2\n\n0", 5, b"12345678"), (REFUSED + 7, b"\x02\x00\x00\x005678"))
+        self.assertEqual(host_read(b"0\n\n0 \n", 5, b"12345678"), (REFUSED + 4, b"\x00\x00\x00\x005678"))
+        most = host_read(b"\n0\n" * 65_537, 5, b"1" * 262_148)
+        self.assertEqual(most, (REFUSED + 8, bytes(262_144) + b"1111"))
+
+
 class Sheets(unittest.TestCase):
     """Order lines and sheets against readers that go over them byte by byte."""
 
@@ -132,23 +237,20 @@ class Sheets(unittest.TestCase):
 
     def test_sheets(self) -> None:
         rng = random.Random(7)
-        texts = [one.text.split(b"\n", 1)[1] for one in inputs.sheet_edges() if len(one.text) < 1_000]
-        for text in texts:
+        edges = [one.text.split(b"\n", 1)[1] for one in inputs.sheet_edges() if len(one.text) < 1_000]
+        for text in (*edges, *inputs.cut_sheets()):
             for sheet in (text, inputs.damaged(rng, text + b"1\n")[0]):
-                self.assertEqual(read_sheet(sheet, 5, room=6).fault, fault_by_steps(sheet, 5, room=6), sheet)
+                self.assertEqual(read_sheet(sheet, 5, room=6), sheet_by_steps(sheet, 5, room=6), sheet)
 
-    def test_room_of_the_program(self) -> None:
-        order = b"1 1 1 1 65536\n"
-        self.assertEqual(printed(order + b"1\n" * ROOM), b"1 (4096)\nsets 1 opened 1\n")
-        self.assertEqual(printed(order + b"1\n" * ROOM + b"1\n"), b"fault 9 line 4097 column 2\n")
-        self.assertEqual(printed(order + b"1\n" * ROOM + b"1"), b"fault 7 line 4097 column 2\n")
+    def test_all_short_sheets(self) -> None:
+        for text in inputs.short_sheets(6):
+            self.assertEqual(read_sheet(text, 1, room=2), sheet_by_steps(text, 1, room=2), text)
 
     def test_length_of_an_input(self) -> None:
         self.assertEqual(printed(b"x" * (TOO_LONG - 1)), b"fault 1 line 0 column 1\n")
         self.assertEqual(printed(b"x" * TOO_LONG), b"fault 10 line 0 column 0\n")
 
     def test_limits_of_the_panel(self) -> None:
-        self.assertEqual(host_read(b"\n" * 65_537, 1, bytes(4 * 65_536))[0], REFUSED + 8)
         self.assertEqual(host_read(b"1" * 1_048_576, 1, b"kept"), (REFUSED + 4, b"kept"))
         self.assertEqual(host_read(b"x" * 1_048_577, 1, b"kept"), (REFUSED + 10, b"kept"))
         self.assertEqual(host_read(b"", 2**32 + 5, b"kept"), (REFUSED + 2, b"kept"))
@@ -176,18 +278,28 @@ def order_by_steps(text: bytes) -> Order | Fault:
     return Order(*numbers)
 
 
-def fault_by_steps(text: bytes, width: int, room: int) -> Fault | None:
-    """Reads a sheet byte by byte, and judges a number when the byte after it is reached."""
-    line, column, digits, last, left = 1, 1, b"", b"\n", 0
+def sheet_by_steps(text: bytes, width: int, room: int) -> Sheet:
+    """Reads a sheet of fewer charges than there may be byte by byte."""
+    charges: list[Marks] = []
+    fault = fault_by_steps(text, width, room, charges)
+    return Sheet(tuple(charges), fault)
+
+
+def fault_by_steps(text: bytes, width: int, room: int, charges: list[Marks]) -> Fault | None:
+    """The first fault. The charges before it are added to those given. A number is judged at the byte after it."""
+    line, column, digits, last, marks = 1, 1, b"", b"\n", []
     for byte in [*(bytes([byte]) for byte in text), b""]:
         if byte.isdigit():
             digits, last, column = digits + byte, byte, column + 1
             continue
+        if digits == b"0" and column == 2 and byte in (b"\n", b""):
+            digits = b""
         if digits and (digits.startswith(b"0") or int(digits) > width):
             return Fault(Reason.BAD_NUMBER, line, column - len(digits))
-        if digits and int(digits) <= left:
+        if digits and marks and int(digits) <= marks[-1]:
             return Fault(Reason.BAD_RISE, line, column - len(digits))
-        left, digits = int(digits or left), b""
+        if digits:
+            marks, digits = [*marks, int(digits)], b""
         if byte not in (b"", b" ", b"\n"):
             # A blank before this byte was right, since only a line end makes the blank before it wrong.
             return Fault(Reason.BAD_BYTE, line, column)
@@ -197,9 +309,11 @@ def fault_by_steps(text: bytes, width: int, room: int) -> Fault | None:
             return Fault(Reason.BAD_BLANK, line, column)
         if byte == b"\n" and last == b" ":
             return Fault(Reason.BAD_BLANK, line, column - 1)
-        if byte == b"\n" and line > room:
-            return Fault(Reason.NO_PLACE, line, column)
-        line, column, left = (line + 1, 1, 0) if byte == b"\n" else (line, column + 1, left)
+        if byte == b"\n" and column > 1:
+            if len(charges) == room:
+                return Fault(Reason.NO_PLACE, line, column)
+            charges.append(frozenset(marks))
+        line, column, marks = (line + 1, 1, []) if byte == b"\n" else (line, column + 1, marks)
         last = byte
     return None
 
@@ -225,9 +339,9 @@ class TheComparison(unittest.TestCase):
         self.assertEqual(differing(b"", cases), ["read", "list"])
 
     def test_inputs_come_to_every_answer(self) -> None:
-        edges = [*inputs.order_edges(), *inputs.sheet_edges()]
+        edges = [*inputs.order_edges(), *inputs.sheet_edges(), *inputs.count_edges(), *inputs.length_edges()]
         heads = {printed(one.text).split(b" line ")[0] for one in edges}
-        self.assertLessEqual({b"fault %d" % number for number in range(1, 8)}, heads)
+        self.assertLessEqual({b"fault %d" % number for number in (1, 2, 3, 4, 5, 6, 7, 9, 10)}, heads)
         self.assertTrue(any(head.startswith(b"1 2 4 (") for head in heads))
 
     def test_inputs_are_the_same_each_time(self) -> None:

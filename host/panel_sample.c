@@ -7,9 +7,10 @@
 #include <stdlib.h>
 #include <string.h>
 
-enum { WIDTH = 5, SUPPORT = 2, MOST = 5, CHARGES = 5, SETS = 5 };
+enum { WIDTH = 5, SUPPORT = 2, MOST = 5, CHARGES = 6, SETS = 5 };
 
-static const char sheet[] = "1 2 4\n1 2\n2 3\n1 2 4\n3 5\n";
+// An empty line is no charge, and a 0 alone on its line a charge without marks.
+static const char sheet[] = "1 2 4\n1 2\n\n2 3\n1 2 4\n0\n3 5\n";
 
 // Ends the program unless a fact holds.
 static void expect(bool holds, const char *fact)
@@ -88,6 +89,10 @@ static void expect_edges(const uint8_t *charges, const uint8_t *records)
     expect(host_list(charges, charge_bytes, WIDTH, CHARGES + 1, MOST, NULL, 0) == 0, "an empty list needs no memory");
     expect(host_list(NULL, 0, WIDTH, SUPPORT, MOST, NULL, 0) == 0, "of no charges nothing is listed");
     expect(host_read(NULL, 0, WIDTH, NULL, 0) == 0, "an empty text is a sheet of no charges");
+    static const uint8_t lines[] = {'\n', '0', '\n', '\n'};
+    uint8_t charge[PANEL_CHARGE_BYTES] = {1, 1, 1, 1};
+    expect(host_read(lines, sizeof lines, WIDTH, charge, sizeof charge) == 1, "empty lines are no charges, and take no memory");
+    expect(number_at(charge, sizeof charge) == 0, "a 0 alone is a charge without marks");
 }
 
 int main(void)

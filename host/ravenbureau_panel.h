@@ -44,10 +44,11 @@ enum {
 extern "C" {
 #endif
 
-// Reads a sheet of this width, and packs each of its lines into PANEL_CHARGE_BYTES of memory, one after another. Answers how many charges it packed.
+// Reads a sheet of this width, and packs each of its charges into PANEL_CHARGE_BYTES of memory, one after another. Answers how many it packed.
+// Each line but an empty one is a charge; a charge without marks is the line `0`. An empty line is no fault where charges or memory have run out.
 // Refused: RANGE unless the width is 1 to 32, and nothing is written; LONG above 1,048,576 bytes of text, and nothing is written; then for the first fault from the
 // left to the right: BAD BYTE, BAD NUMBER, BAD RISE, BAD BLANK, NO LINE END, and at a line end TOO MANY (charge 65,537), then NO PLACE (under 4 bytes of memory free).
-// The lines before the faulty one stay packed.
+// The charges of the lines before the faulty one stay packed.
 uint64_t host_read(const uint8_t *text, size_t text_length, uint64_t width, uint8_t *memory, size_t memory_length);
 
 // Writes the list of packed charges of this width as found records, one after another: every closed set of at most `most` marks that at least `support` charges hold,

@@ -1,5 +1,5 @@
 -- What an input asks for is what is understood.
-use Rattle.std.proofs.Common.{◌≡◌, ℕ, zero, suc, ◌+◌, ◌^◌, ◌<◌, ◌≤◌, Bool, true, false, leb, not, ◌&&◌, List, [], ◌∷◌, ◌++◌, length, get_or, drop, decimal, Some, None, Ok, Err, Option, Result, refl, sym, ap, ◌∙◌, subst, inl, inr, arith, length-append}
+use Rattle.std.proofs.Common.{◌≡◌, ℕ, zero, suc, ◌+◌, ◌^◌, ◌<◌, ◌≤◌, Bool, true, false, leb, not, ◌&&◌, List, [], ◌∷◌, ◌++◌, length, get_or, drop, decimal, Some, None, Ok, Err, Option, Result, refl, sym, ap, ◌∙◌, subst, inl, inr, arith}
 use Rattle.std.specs.Option.{option_or}
 use Rattle.std.proofs.lemmas.Bool.{le-leb, leb-true, and_from}
 use Rattle.std.proofs.lemmas.List.{drop_at}
@@ -13,7 +13,6 @@ use Rattle.sheets.specs.Accepting.{IsSheet}
 use Rattle.sheets.specs.Digits.{most_digits}
 use Rattle.sheets.specs.OrderLines.{number_ends, ended_numbers, number_start, number_in, numbers_in, number_ranges, bounds_refusal, ranges_refusal, columns_from, order_refusal, numbers_of, Begins, FitFor, Says, ReadsRightLines}
 use Rattle.sheets.specs.Reading.{Reading, reading}
-use Rattle.sheets.specs.Rendering.{render}
 use Rattle.sheets.proofs.Accepted.{accepted}
 use Rattle.sheets.proofs.Rendered.{sheet_read}
 use Rattle.listed.specs.Asking.{input_limit, sheet_room, sheet_in, sheet_reading, input_refusal, windowed_query, query_in, IsAsked, AsksUnlessFaulty, IsUnderstood}
@@ -59,10 +58,8 @@ module _ (n least most first count : ℕ) (rows input : List ℕ) (asked : IsAsk
   rows_read same start =
       let line = ended_numbers number_ends numbers in
       let width : number_in input 0 ≡ n = ap (λ (l : List ℕ). get_or l 0 0) same in
-      let sheet : sheet_in input ≡ render rows = ap (drop (number_start input 5)) asked.written ∙ drop_at line (render rows) (number_start input 5) (sym start) in
-      let size : length input ≡ length line + length (render rows) = ap length asked.written ∙ length-append line (render rows) in
-      let is : IsSheet n sheet_room (render rows) rows = record { rendered = refl; within = asked.within; few = omega (arith, asked.few); fits = omega (arith, asked.few); short = omega (arith, asked.short) } in
-      (λ i. reading (width i) sheet_room (sheet i)) ∙ sheet_read n sheet_room (render rows) rows asked.width.1 is
+      let text : sheet_in input ≡ asked.text = ap (drop (number_start input 5)) asked.written ∙ drop_at line asked.text (number_start input 5) (sym start) in
+      (λ i. reading (width i) sheet_room (text i)) ∙ sheet_read n sheet_room asked.text rows asked.width.1 asked.sheet
 
   query_same : numbers_in input ≡ numbers → sheet_reading input ≡ record { refusal = None; rows = rows } → query_in input ≡ windowed_query (record { width = n; rows = rows }) least most first count
   query_same same read =
@@ -71,10 +68,10 @@ module _ (n least most first count : ℕ) (rows input : List ℕ) (asked : IsAsk
 
 pub understood : (input : List ℕ) (r : Result Order Refusal) → Answers (order_refusal input) (Says input) r → ReadsRightLines input r → IsUnderstood input
 understood input (Err e) h lines n least most first count rows asked =
-    let due = lines.right (numbers n least most first count rows input asked) (fit n least most first count rows input asked) (render rows, asked.written) in
+    let due = lines.right (numbers n least most first count rows input asked) (fit n least most first count rows input asked) (asked.text, asked.written) in
     absurd (none-some e (sym (none_ranged n least most first count rows input asked) ∙ due))
 understood input (Ok o) h lines n least most first count rows asked =
-    let right = lines.right (numbers n least most first count rows input asked) (fit n least most first count rows input asked) (render rows, asked.written) in
+    let right = lines.right (numbers n least most first count rows input asked) (fit n least most first count rows input asked) (asked.text, asked.written) in
     let same = sym h.1.0 ∙ right.1.0 in
     let read = rows_read n least most first count rows input asked same (omega (arith, h.1.1, right.1.1)) in
     (sheet_fault input asked.short h.0 ∙ ap (λ (s : Reading). s.refusal) read, query_same n least most first count rows input asked same read)
@@ -132,8 +129,7 @@ module _ (input : List ℕ) (o : Order) (short : length input < input_limit) (h 
       let most = told o.width.number o.support.number o.size o.first.number o.count ranges in
       let line = ended_numbers number_ends ns in
       let start : number_start input 5 ≡ length line = omega (arith, h.1.1, right.1.1) in
-      let rest : sheet_in input ≡ begins.0 = ap (drop (number_start input 5)) begins.1 ∙ drop_at line begins.0 (number_start input 5) (sym start) in
-      let sheet = sheet_is (sym (sheet_fault input short h.0) ∙ none) in (
+      let rest : sheet_in input ≡ begins.0 = ap (drop (number_start input 5)) begins.1 ∙ drop_at line begins.0 (number_start input 5) (sym start) in (
         o.width.number,
         o.support.number,
         o.size,
@@ -141,14 +137,14 @@ module _ (input : List ℕ) (o : Order) (short : length input < input_limit) (h 
         o.count,
         (sheet_reading input).rows,
         record {
-          written = begins.1 ∙ (λ i. ended_numbers number_ends (sym same i) ++ sym rest i) ∙ ap (λ l. ended_numbers number_ends (numbers_of o) ++ l) sheet.rendered;
+          text = sheet_in input;
+          written = begins.1 ∙ (λ i. ended_numbers number_ends (sym same i) ++ sym rest i);
+          sheet = sheet_is (sym (sheet_fault input short h.0) ∙ none);
           width = o.width.range;
           support = o.support.range;
           size = most.0;
           start = o.first.range;
           charges = most.1;
-          within = sheet.within;
-          few = omega (arith, sheet.fits);
           short = short;
         },
       )

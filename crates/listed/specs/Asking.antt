@@ -1,5 +1,5 @@
 -- What an input asks for: an order line, and the sheet behind it.
-use Rattle.std.specs.Prelude.{◌≡◌, ℕ, ◌*◌, ◌^◌, ◌<◌, ◌≤◌, List, [], ◌∷◌, ◌++◌, length, take, drop, None, Option, nat_le, slice_index}
+use Rattle.std.specs.Prelude.{◌≡◌, ℕ, ◌*◌, ◌<◌, ◌≤◌, List, [], ◌∷◌, ◌++◌, length, take, drop, None, Option, nat_le}
 use Rattle.marks.specs.declared.refusal.Reason.TheVariants.{Long}
 use Rattle.marks.specs.declared.refusal.Refusal.{Refusal}
 use Rattle.marks.specs.Numbers.{most_marks, most_charges, InRange}
@@ -9,9 +9,9 @@ use Rattle.tables.specs.Packed.{row_bytes, packed_refusal}
 use Rattle.tables.specs.Layers.{windowed}
 use Rattle.limits.specs.Limits.{small}
 use Rattle.closed.specs.Closed.{Query, query}
+use Rattle.sheets.specs.Accepting.{IsSheet}
 use Rattle.sheets.specs.OrderLines.{number_ends, ended_numbers, number_start, number_in, numbers_of, numbers_in, order_refusal}
 use Rattle.sheets.specs.Reading.{Reading, reading}
-use Rattle.sheets.specs.Rendering.{render}
 use Rattle.listed.specs.declared.asking.Asked.{Asked}
 
 -- an input has fewer bytes than this
@@ -62,16 +62,16 @@ query_in input = windowed_query (charges_in input) (number_in input 1) (number_i
 abbrev pub Asks : List ℕ → Asked → Type 0
 Asks input asked = (numbers_of asked.order ≡ numbers_in input) × (asked.count ≡ length (rows_in input))
 
--- The input is an order line of these five numbers, each in its range, and behind it the sheet of these rows, each a set of marks up to the width n; there are not too many rows or bytes.
+-- The input is an order line of these five numbers, each in its range, and behind it a sheet of these rows, each a set of marks up to the width n, for which there is memory; and it is not too long.
 pub record IsAsked (n least most first count : ℕ) (rows input : List ℕ) : Type 0 where
-  pub written : input ≡ ended_numbers number_ends (n ∷ least ∷ most ∷ first ∷ count ∷ []) ++ render rows
+  pub text : List ℕ
+  pub written : input ≡ ended_numbers number_ends (n ∷ least ∷ most ∷ first ∷ count ∷ []) ++ text
+  pub sheet : IsSheet n sheet_room text rows
   pub width : InRange most_marks n
   pub support : InRange most_charges least
   pub size : most ≤ most_marks
   pub start : InRange most_charges first
   pub charges : count ≤ most_charges
-  pub within : (k : ℕ) → slice_index rows k < 2 ^ n
-  pub few : length rows ≤ most_rows
   pub short : length input < input_limit
 
 -- whatever an input asks for is what is understood

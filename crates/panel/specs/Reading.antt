@@ -20,7 +20,7 @@ read_result n room text = result_of (read_refusal n room text) (length (reading 
 unfoldable pub read_memory : ℕ → List ℕ → List ℕ → List ℕ
 read_memory n text memory = unless_due (range_refusal most_marks n) (packed_into (reading n (length memory) text).rows memory) memory
 
--- Where a count is answered, the width is in range, and the text is the sheet of the rows that so many charges have in the front of memory. Where the width is in range, and the text is the sheet of rows that fit, their count is answered.
+-- Where a count is answered, the width is in range, and the lines of the text, but for the empty ones, are those of the rows that so many charges have in the front of memory. Where the width is in range, and the text is a sheet of rows that fit, their count is answered.
 pub record ReadsSheets (n : ℕ) (text old new : List ℕ) (answer : ℕ) : Type 0 where
   pub wide : answer < refusal_base → InRange most_marks n
   pub counted : answer < refusal_base → IsSheet n (length old) text (packed_rows (take (row_bytes * answer) new))

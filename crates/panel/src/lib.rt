@@ -14,9 +14,10 @@ use answer::number_of_answer;
 use listing::list;
 use reading::read;
 
-/// Packs each line of a sheet of this width into four bytes of memory, and answers how many charges it packed, or 2^40 plus a refusal's number.
+/// Packs each charge of a sheet of this width into four bytes of memory, and answers how many it packed, or 2^40 plus a refusal's number.
+/// Each line but an empty one is a charge; a charge without marks is the line `0`.
 /// Refused: RANGE for the width, and memory is then as it was; then as `read_sheet` refuses.
-/// The lines before a fault stay packed; every other byte of memory is as it was.
+/// The charges of the lines before a fault stay packed; every other byte of memory is as it was.
 #[unsafe(no_mangle)]
 #[tactic(auto, using(crate::proofs::ToldReading::read_apart, crate::proofs::ToldReading::reads_sheets))]
 pub extern "C" fn host_read(text: &[u8], width: u64, memory: &mut [u8]) -> u64

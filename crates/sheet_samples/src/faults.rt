@@ -63,6 +63,17 @@ fn several_faults(rt: HostRuntime) -> Result<(), Fail> {
         ("3 2x\n", Reason::BadRise, 1, 3),
         ("3 2 \n", Reason::BadRise, 1, 3),
         ("3 0\n", Reason::BadNumber, 1, 3),
+        ("3 0", Reason::BadNumber, 1, 3),
+        ("0 ", Reason::BadNumber, 1, 1),
+        ("0 \n", Reason::BadNumber, 1, 1),
+        ("0x\n", Reason::BadNumber, 1, 1),
+        ("0 1\n", Reason::BadNumber, 1, 1),
+        ("01\n", Reason::BadNumber, 1, 1),
+        ("00\n", Reason::BadNumber, 1, 1),
+        ("00", Reason::BadNumber, 1, 1),
+        ("0", Reason::NoLineEnd, 1, 2),
+        (" 0\n", Reason::BadBlank, 1, 1),
+        ("0\r\n", Reason::BadNumber, 1, 1),
         ("1  0\n", Reason::BadBlank, 1, 3),
         ("0  1\n", Reason::BadNumber, 1, 1),
         (" x\n", Reason::BadBlank, 1, 1),
@@ -72,10 +83,12 @@ fn several_faults(rt: HostRuntime) -> Result<(), Fail> {
         ("1\n2\n3 6", Reason::BadNumber, 3, 3),
         ("1\n2\n3 3", Reason::BadRise, 3, 3),
         ("1\n4 4\nx\n", Reason::BadRise, 2, 3),
-        ("1\n2\n3\n\n", Reason::NoPlace, 4, 1),
+        ("1\n2\n3\n0\n", Reason::NoPlace, 4, 2),
         ("1\n2\n3\n4\nx", Reason::NoPlace, 4, 2),
         ("1\n2\n3\n6\n", Reason::BadNumber, 4, 1),
         ("1\n2\n3\n4 \n", Reason::BadBlank, 4, 2),
+        ("1\n2\n3\n00\n", Reason::BadNumber, 4, 1),
+        ("1\n2\n3\n0", Reason::NoLineEnd, 4, 2),
         ("1\n2\n3\n4", Reason::NoLineEnd, 4, 2),
     ] {
         assert_eq!(rt; read(text)?, refused(reason, line, column), "{text:?}");
@@ -113,6 +126,23 @@ fn bytes_and_numbers(rt: HostRuntime) -> Result<(), Fail> {
         ),
     ] {
         assert_eq!(rt; read(text)?, refused(reason, line, column), "{text:?}");
+    }
+    Ok(())
+}
+
+// Empty lines count as lines where a fault is placed, but they are no charges, and take no memory.
+#[test]
+fn faults_behind_empty_lines(rt: HostRuntime) -> Result<(), Fail> {
+    let three = [1, 0, 0, 0, 2, 0, 0, 0, 4, 0, 0, 0];
+    for (text, packed, reason, line, column) in [
+        ("\n\n0", [7; 12], Reason::NoLineEnd, 3, 2),
+        ("\n\n01\n", [7; 12], Reason::BadNumber, 3, 1),
+        ("\n\n \n", [7; 12], Reason::BadBlank, 3, 1),
+        ("\n1\n\n2\n3\n\n\n0\n", three, Reason::NoPlace, 8, 2),
+        ("1\n2\n3\n\n\nx", three, Reason::BadByte, 6, 1),
+    ] {
+        let fault = Err(Refusal::at_line(reason, line, column));
+        assert_eq!(rt; read(text)?, (fault, packed), "{text:?}");
     }
     Ok(())
 }

@@ -13,9 +13,9 @@ fn shows(text: &[u8], sheet: &str) -> bool {
 fn written_sheets_are_read_back(rt: HostRuntime) -> Result<(), Fail> {
     let width = Width::new(32)?;
     for (bytes, sheet) in [
-        ([0; 8], "\n\n"),
+        ([0; 8], "0\n0\n"),
         ([11, 0, 0, 0, 3, 0, 0, 0], "1 2 4\n1 2\n"),
-        ([0, 0, 0, 0, 20, 0, 0, 0], "\n3 5\n"),
+        ([0, 0, 0, 0, 20, 0, 0, 0], "0\n3 5\n"),
         ([1, 0, 0, 128, 0, 3, 0, 0], "1 32\n9 10\n"),
         (
             [127, 0, 0, 0, 0, 0, 0, 254],
@@ -34,6 +34,14 @@ fn written_sheets_are_read_back(rt: HostRuntime) -> Result<(), Fail> {
 }
 
 #[test]
+fn a_sheet_that_fills_its_text(rt: HostRuntime) -> Result<(), Fail> {
+    let mut text = [b'*'; 2];
+    let answer = write_sheet(&[0; 4], Width::new(5)?, &mut text);
+    assert_eq!(rt; (answer, text), (Ok(2), *b"0\n"));
+    Ok(())
+}
+
+#[test]
 fn refused_bytes(rt: HostRuntime) -> Result<(), Fail> {
     let ragged = Refusal::unplaced(Reason::Ragged);
     let no_place = Refusal::unplaced(Reason::NoPlace);
@@ -46,7 +54,7 @@ fn refused_bytes(rt: HostRuntime) -> Result<(), Fail> {
             9,
             Refusal::at(Reason::Stray, 2),
         ),
-        ([0; 4].as_slice(), 0, no_place),
+        ([0; 4].as_slice(), 1, no_place),
         ([11, 0, 0, 0, 3, 0, 0, 0].as_slice(), 9, no_place),
     ] {
         let mut text = vec![in rt.alloc(); b'*'; room]?;

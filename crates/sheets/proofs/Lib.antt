@@ -13,3 +13,4 @@ pub mod Sheeted
 pub mod Sheets
 pub mod Starts
 pub mod Steps
+pub mod TextLines

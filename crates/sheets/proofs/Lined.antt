@@ -13,7 +13,8 @@ use Rattle.marks.specs.Sets.{has, bits_below}
 use Rattle.marks.proofs.Enumerated.{bits_start, bits_more}
 use Rattle.tables.proofs.Passing.{ending_after}
 use Rattle.tables.specs.Meaning.{Meaning, count_of, row_of}
-use Rattle.sheets.specs.Rendering.{marks_of, spaced_marks, row_text, render}
+use Rattle.sheets.specs.Rendering.{or_zero, spaced, row_words, row_text, render}
+use Rattle.sheets.proofs.Numbers.{decimal_zero}
 
 -- ---- the marks of a row
 
@@ -25,11 +26,11 @@ blanks_before : (bits : List ℕ) → flat_map (λ mark. codes " " ++ decimal ma
 blanks_before [] = refl
 blanks_before (b ∷ bits) = ap (λ (l : List ℕ). word b ++ l) (blanks_before bits)
 
-pub marks_none : (row : ℕ) → bits_below most_marks row ≡ [] → spaced_marks (marks_of row) ≡ []
-marks_none row e = ap (λ bits. spaced_marks (map (λ b. b + 1) bits)) e
+pub words_none : (row : ℕ) → bits_below most_marks row ≡ [] → row_words row ≡ codes "0"
+words_none row e = ap (λ bits. spaced (or_zero (map (λ b. b + 1) bits))) e ∙ ap (λ (l : List ℕ). l ++ []) decimal_zero
 
-pub marks_some : (row b : ℕ) (bits : List ℕ) → bits_below most_marks row ≡ b ∷ bits → spaced_marks (marks_of row) ≡ decimal (b + 1) ++ flat_map word bits
-marks_some row b bits e = ap (λ bits. spaced_marks (map (λ b. b + 1) bits)) e ∙ ap (λ (l : List ℕ). decimal (b + 1) ++ l) (blanks_before bits)
+pub words_given : (row b : ℕ) (bits : List ℕ) → bits_below most_marks row ≡ b ∷ bits → row_words row ≡ decimal (b + 1) ++ flat_map word bits
+words_given row b bits e = ap (λ bits. spaced (or_zero (map (λ b. b + 1) bits))) e ∙ ap (λ (l : List ℕ). decimal (b + 1) ++ l) (blanks_before bits)
 
 -- each mark takes at most three bytes
 words_short : (row n : ℕ) → n ≤ 99 → length (flat_map word (bits_below n row)) ≤ 3 * n
@@ -50,15 +51,15 @@ words_short row (suc n) h =
     by true = omega (arith, length-append (word n) [], length-append (codes " ") (decimal (n + 1)), length-decimal-le 2 (n + 1) (omega arith) (omega arith) (omega arith))
     by false = omega arith
 
-pub marks_short : (row : ℕ) → length (spaced_marks (marks_of row)) ≤ 95
+pub marks_short : (row : ℕ) → length (row_words row) ≤ 95
 marks_short row = by (bits_below most_marks row) refl
   where
-    by : (bits : List ℕ) → bits_below most_marks row ≡ bits → length (spaced_marks (marks_of row)) ≤ 95
-    by [] e = omega (arith, ap length (marks_none row e))
+    by : (bits : List ℕ) → bits_below most_marks row ≡ bits → length (row_words row) ≤ 95
+    by [] e = omega (arith, ap length (words_none row e))
     by (b ∷ bits) e =
         omega (
           arith,
-          ap length (marks_some row b bits e),
+          ap length (words_given row b bits e),
           length-append (decimal (b + 1)) (flat_map word bits),
           words_short row most_marks (omega arith),
           ap (λ bits. length (flat_map word bits)) e,
@@ -68,10 +69,10 @@ marks_short row = by (bits_below most_marks row) refl
 
 -- what was written, and the words of the marks that are left, are the text of all marks of the row
 pub record Partly (row left : ℕ) (written : List ℕ) : Type 0 where
-  pub whole : written ++ flat_map word (bits_below most_marks left) ≡ spaced_marks (marks_of row)
+  pub whole : written ++ flat_map word (bits_below most_marks left) ≡ row_words row
   pub short : length written ≤ 95
 
-partly : (row left : ℕ) (written : List ℕ) → written ++ flat_map word (bits_below most_marks left) ≡ spaced_marks (marks_of row) → Partly row left written
+partly : (row left : ℕ) (written : List ℕ) → written ++ flat_map word (bits_below most_marks left) ≡ row_words row → Partly row left written
 partly row left written e =
     record { whole = e; short = omega (arith, ap length e, length-append written (flat_map word (bits_below most_marks left)), marks_short row) }
 
@@ -79,7 +80,7 @@ pub first_mark : {row rest n : ℕ} {written : List ℕ} → 0 < n → bits_belo
 first_mark {row = row} {rest = rest} {n = n} {written = written} some e is =
     let back : n - 1 + 1 ≡ n = omega arith in
     partly row rest written
-    (ap (λ (l : List ℕ). l ++ flat_map word (bits_below most_marks rest)) (is ∙ ap decimal (sym back)) ∙ sym (marks_some row (n - 1) (bits_below most_marks rest) e))
+    (ap (λ (l : List ℕ). l ++ flat_map word (bits_below most_marks rest)) (is ∙ ap decimal (sym back)) ∙ sym (words_given row (n - 1) (bits_below most_marks rest) e))
 
 pub next_mark : {row left rest n : ℕ} {written : List ℕ} → 0 < n → Partly row left written → bits_below most_marks left ≡ bit_of n ∷ bits_below most_marks rest
     → Partly row rest ((written ++ codes " ") ++ decimal n)
@@ -98,7 +99,7 @@ next_room {n = n} {written = written} rest some small p e =
 -- ---- the lines of rows
 
 pub line_short : (row : ℕ) → length (row_text row) ≤ 96
-line_short row = omega (arith, length-append (spaced_marks (marks_of row)) (codes "\n"), marks_short row)
+line_short row = omega (arith, length-append (row_words row) (codes "\n"), marks_short row)
 
 pub render_more : (rows : List ℕ) (k : ℕ) → k < length rows → render (take (k + 1) rows) ≡ render (take k rows) ++ row_text (get_or rows k 0)
 render_more rows k h =

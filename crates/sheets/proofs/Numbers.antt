@@ -1,10 +1,14 @@
 -- The number that digits write.
-use Rattle.std.proofs.Common.{◌≡◌, ℕ, ◌+◌, ◌-◌, ◌*◌, ◌<◌, ◌≤◌, Bool, true, false, ◌||◌, ◌==◌, None, List, [], ◌∷◌, length, get_or, fold, refl, rules, arith}
+use Rattle.std.proofs.Common.{◌≡◌, ℕ, ◌+◌, ◌-◌, ◌*◌, ◌<◌, ◌≤◌, Bool, true, false, ◌||◌, ◌==◌, Some, None, List, [], ◌∷◌, length, get_or, fold, codes, decimal, refl, ap, rules, arith}
 use Rattle.std.specs.Str.{all_ascii_digits}
 use Rattle.std.proofs.lemmas.Str.Parse.{IsNumeralModel, numerals_by_fold, tells_all_ascii_digits, digit_at}
-use Rattle.std.proofs.lemmas.Bool.{ne_eqb, le-ltb, lt-ltb, le-leb}
+use Rattle.std.proofs.lemmas.Bool.{eqb-true, false≢true, ne_eqb, le-ltb, lt-ltb, le-leb}
+use Rattle.std.proofs.lemmas.Fmt.{decimal_digit}
+use Rattle.marks.specs.declared.refusal.Reason.{Reason}
+use Rattle.marks.specs.declared.refusal.Reason.TheVariants.{BadNumber}
+use Rattle.marks.specs.declared.refusal.Refusal.{Refusal}
 use Rattle.marks.specs.Refusals.{range_refusal}
-use Rattle.sheets.specs.Reading.{worth, is_bad_number}
+use Rattle.sheets.specs.Reading.{worth, is_single_zero, is_bad_number, number_fault}
 
 -- a digit more
 abbrev pub step : ℕ → ℕ → ℕ
@@ -35,6 +39,20 @@ big_number n ds high = rw (lt-ltb n (worth ds) high) (by (get_or ds 0 0 == 48))
     by : (t : Bool) → (t || true) ≡ true
     by true = refl
     by false = refl
+
+-- digits that are a single 0
+pub single_zero : (ds : List ℕ) → is_single_zero ds ≡ true → ds ≡ 48 ∷ []
+single_zero [] e = absurd (false≢true e)
+single_zero (d ∷ []) e = ap (λ c. c ∷ []) (eqb-true d 48 e)
+single_zero (d ∷ c ∷ ds) e = absurd (false≢true e)
+
+-- which are no mark
+pub zero_fault : (placed : Reason → Refusal) (n left : ℕ) (ds : List ℕ) → is_single_zero ds ≡ true → number_fault placed n left ds ≡ Some (placed BadNumber)
+zero_fault placed n left ds e = ap (number_fault placed n left) (single_zero ds e)
+
+-- 0 in digits
+pub decimal_zero : decimal 0 ≡ codes "0"
+decimal_zero = decimal_digit 0 (omega arith)
 
 -- a number in range is one that can be made
 pub in_due : (number : ℕ) → 0 < number → number ≤ 32 → range_refusal 32 number ≡ None

@@ -1,6 +1,6 @@
 -- What is known of a sheet while it is read.
-use Rattle.std.proofs.Common.{◌≡◌, ℕ, ◌+◌, ◌*◌, ◌<◌, ◌≤◌, Bool, true, false, ◌||◌, ltb, leb, ◌⊎◌, inl, inr, List, [], ◌∷◌, ◌++◌, length, take, drop, None, Ok, Err, Option, Result, sym, refl, ap, ◌∙◌, append_assoc, arith, length-append}
-use Rattle.std.proofs.lemmas.Bool.{cases_lt, lt-ltb}
+use Rattle.std.proofs.Common.{◌≡◌, ℕ, ◌+◌, ◌*◌, ◌<◌, ◌≤◌, Bool, true, false, cond, not, ◌||◌, ◌&&◌, ltb, leb, ◌⊎◌, inl, inr, List, [], ◌∷◌, ◌++◌, length, take, drop, None, Ok, Err, Option, Result, sym, refl, ap, ◌∙◌, append-nil, append_assoc, arith, length-append}
+use Rattle.std.proofs.lemmas.Bool.{cases_lt, lt-ltb, false≢true, false_from_ne_true}
 use Rattle.std.proofs.lemmas.Option.{none-some}
 use Rattle.std.proofs.lemmas.List.{take_at}
 use Rattle.std.proofs.lemmas.List.Concat.{flat_map-append}
@@ -9,17 +9,22 @@ use Rattle.marks.specs.Bytes.{four_bytes}
 use Rattle.marks.specs.declared.refusal.Reason.{Reason}
 use Rattle.marks.specs.declared.refusal.Reason.TheVariants.{BadBlank, TooMany, NoPlace}
 use Rattle.marks.specs.declared.refusal.Refusal.{Refusal}
-use Rattle.marks.specs.Numbers.{bit_of, most_charges}
+use Rattle.marks.specs.Numbers.{most_charges}
 use Rattle.marks.specs.Refusals.{Answers, due_if, first_due}
-use Rattle.marks.specs.Sets.{with_bit}
+use Rattle.marks.specs.Sets.{no_marks}
 use Rattle.tables.specs.Packed.{row_bytes}
+use Rattle.sheets.specs.Ahead.{is_line_end, is_end_of_line}
+use Rattle.sheets.specs.Cutting.{Part, Digits, Gap, Break, Odd}
+use Rattle.sheets.specs.declared.piece.Ahead.{Ahead}
 use Rattle.sheets.specs.declared.piece.Piece.TheVariants.{Number, Blank, LineEnd}
 use Rattle.sheets.specs.declared.piece.Place.{Place}
 use Rattle.sheets.specs.declared.reading.Sheet.{Sheet}
-use Rattle.sheets.specs.Knowing.{HasPacked, Takes}
+use Rattle.sheets.specs.declared.line.Left.{Left}
+use Rattle.sheets.specs.declared.line.Left.TheVariants.{Nothing, Zero, Mark, Blank as AfterBlank}
+use Rattle.sheets.specs.Knowing.{after_zero, Knows, HasEnded, Takes}
 use denote.Ref.{Bor}
-use Rattle.sheets.specs.Lines.{is_nothing, is_blank, left_of, fault_at, HasAdded, HasParted}
-use Rattle.sheets.specs.Reading.{worth, open_row, rows_of, number_fault, charge_fault, packed_into}
+use Rattle.sheets.specs.Lines.{is_nothing, is_zero, is_mark, is_blank, left_of, fault_at, HasAdded, HasParted}
+use Rattle.sheets.specs.Reading.{worth, with_number, open_row, rows_of, left_number, at_line_start, after_blank, is_single_zero, number_fault, charge_fault, packed_into}
 use Rattle.sheets.specs.Rendering.{packed_bytes}
 
 pub length_packed : (rows : List ℕ) → length (packed_bytes rows) ≡ row_bytes * length rows
@@ -60,48 +65,106 @@ answers_along : {A : Type 0} {P Q : A → Type 0} (due due' : Option Refusal) �
 answers_along due due' e f (Ok x) h = (sym e ∙ h.0, f x h.0 h.1)
 answers_along due due' e f (Err refusal) h = sym e ∙ h
 
-module _ (place : Place) (before : Bool) (old new : Sheet) (held : List ℕ) where
+-- ---- a line that ends
+
+-- at the start of a line nothing of it is there
+pub record AtStart (passed : List Part) : Type 0 where
+  pub row : open_row passed ≡ no_marks
+  pub left : left_number passed ≡ 0
+  pub zero : after_zero passed ≡ false
+  pub blank : after_blank passed ≡ false
+
+pub starts : (passed : List Part) → at_line_start passed ≡ true → AtStart passed
+starts [] e = record { row = refl; left = refl; zero = refl; blank = refl }
+starts (Digits ds ∷ passed) e = absurd (false≢true e)
+starts (Gap ∷ passed) e = absurd (false≢true e)
+starts (Break ∷ passed) e = record { row = refl; left = refl; zero = refl; blank = refl }
+starts (Odd b ∷ passed) e = absurd (false≢true e)
+
+-- an empty line adds no row, and any other its own
+pub no_row : (passed : List Part) → at_line_start passed ≡ true → rows_of (Break ∷ passed) ≡ rows_of passed
+no_row passed e = ap (λ t. rows_of passed ++ cond t [] (open_row passed ∷ [])) e ∙ append-nil (rows_of passed)
+
+pub one_row : (passed : List Part) → at_line_start passed ≡ false → rows_of (Break ∷ passed) ≡ rows_of passed ++ open_row passed ∷ []
+one_row passed e = ap (λ t. rows_of passed ++ cond t [] (open_row passed ∷ [])) e
+
+module _ (place : Place) {old new : Sheet} {start held now : List ℕ} {passed : List Part} (k : Knows passed start held old) where
+  ended : (t : Bool) → at_line_start passed ≡ t → cond t None (charge_fault (fault_at place) (length held) old.count) ≡ None → length held ≡ length start → HasEnded old new held now
+      → Knows (Break ∷ passed) start now new
+  ended true e due same h =
+      let a = h.empty (k.nothing ∙ e) in
+      let s = starts passed e in
+      let rows = sym (no_row passed e) in
+      record {
+        row = ap (λ (sheet : Sheet). sheet.line.row.bits) a.0 ∙ k.row ∙ s.row;
+        left = ap (λ (sheet : Sheet). left_of sheet.line.left) a.0 ∙ k.left ∙ s.left;
+        nothing = ap (λ (sheet : Sheet). is_nothing sheet.line.left) a.0 ∙ k.nothing ∙ e;
+        zero = ap (λ (sheet : Sheet). is_zero sheet.line.left) a.0 ∙ k.zero ∙ s.zero;
+        blank = ap (λ (sheet : Sheet). is_blank sheet.line.left) a.0 ∙ k.blank ∙ s.blank;
+        counted = ap (λ (sheet : Sheet). sheet.count) a.0 ∙ k.counted ∙ ap length rows;
+        memory = a.1 ∙ k.memory ∙ ap (λ l. packed_into l start) rows;
+      }
+  ended false e due same h =
+      let a = h.filled (k.nothing ∙ e) in
+      let rows = sym (one_row passed e) in
+      record {
+        row = a.row;
+        left = ap left_of a.left;
+        nothing = ap is_nothing a.left;
+        zero = ap is_zero a.left;
+        blank = ap is_blank a.left;
+        counted = omega (arith, a.count, k.counted, length-append (rows_of passed) (open_row passed ∷ [])) ∙ ap length rows;
+        memory = packed_more (rows_of passed) (open_row passed) old.count start held now k.counted (omega (arith, charge_room (fault_at place) (length held) old.count due)) k.memory
+            (a.bytes ∙ ap (λ row. take (row_bytes * old.count) held ++ (four_bytes row ++ drop (row_bytes * (old.count + 1)) held)) k.row)
+            ∙ ap (λ l. packed_into l start) rows;
+      }
+
+-- what is at the left of a blank, where that is no 0
+no_mark : (left : Left) (t : Bool) → is_zero left ≡ false → (not (is_mark left) || t) ≡ (is_nothing left || (is_blank left || t))
+no_mark Nothing t z = refl
+no_mark Zero t z = absurd (false≢true (sym z))
+no_mark (Mark mark) t z = refl
+no_mark (AfterBlank mark) t z = refl
+
+module _ (place : Place) (ahead : Ahead) (old new : Sheet) (held : List ℕ) where
   pub take_number : (digits : Bor (List ℕ)) (r : Result (Unit {0}) Refusal) → new.count ≡ old.count
-      → Answers (number_fault (fault_at place) old.width.number (left_of old.line.left) digits.now) (λ _. HasAdded old.line new.line (worth digits.now)) r
-      → Takes (Number digits place) before old new held held r
+      → Answers (cond (is_single_zero digits.now && (is_nothing old.line.left && is_end_of_line ahead)) None (number_fault (fault_at place) old.width.number (left_of old.line.left) digits.now))
+      (λ _. HasAdded old.line new.line digits.now) r
+      → Takes (Number digits place) ahead old new held held r
   take_number digits r count h =
-      λ passed parts start k same at next.
-      answers_along _ _ (λ i. number_fault (at i) old.width.number (k.left i) digits.now)
+      λ passed parts start k same at ends next.
+      answers_along _ _ (λ i. cond (is_single_zero digits.now && (k.nothing i && next.end_of_line i)) None (number_fault (at i) old.width.number (k.left i) digits.now))
       (λ x _ a. record {
-        row = a.row ∙ ap (λ row. with_bit row (bit_of (worth digits.now))) k.row;
+        row = a.row ∙ ap (λ row. with_number row (worth digits.now)) k.row;
         left = a.left;
         nothing = a.begun;
+        zero = a.zero;
         blank = a.no_blank;
         counted = count ∙ k.counted;
         memory = k.memory;
       }) r h
 
   pub take_blank : (r : Result (Unit {0}) Refusal) → new.count ≡ old.count
-      → Answers (due_if (is_nothing old.line.left || (is_blank old.line.left || before)) (fault_at place BadBlank)) (λ _. HasParted old.line new.line) r
-      → Takes (Blank place) before old new held held r
+      → Answers (due_if (not (is_mark old.line.left) || is_line_end ahead) (fault_at place BadBlank)) (λ _. HasParted old.line new.line) r → Takes (Blank place) ahead old new held held r
   take_blank r count h =
-      λ passed parts start k same at next.
-      answers_along _ _ (λ i. due_if (k.nothing i || (k.blank i || next i)) (at i BadBlank))
+      λ passed parts start k same at ends next.
+      let other : is_zero old.line.left ≡ false = k.zero ∙ false_from_ne_true (after_zero passed) (λ z. false≢true (ends z)) in
+      answers_along _ _
+      (ap (λ t. due_if t (fault_at place BadBlank)) (no_mark old.line.left (is_line_end ahead) other)
+      ∙ (λ i. due_if (k.nothing i || (k.blank i || next.line_end i)) (at i BadBlank)))
       (λ x _ a. record {
         row = ap (λ row. row.bits) a.row ∙ k.row;
         left = a.left ∙ k.left;
         nothing = a.begun;
+        zero = a.no_zero;
         blank = a.blank;
         counted = count ∙ k.counted;
         memory = k.memory;
       }) r h
 
   pub take_line_end : (now : List ℕ) (r : Result (Unit {0}) Refusal)
-      → Answers (charge_fault (fault_at place) (length held) old.count) (λ _. HasPacked old new held now) r → Takes (LineEnd place) before old new held now r
+      → Answers (cond (is_nothing old.line.left) None (charge_fault (fault_at place) (length held) old.count)) (λ _. HasEnded old new held now) r → Takes (LineEnd place) ahead old new held now r
   take_line_end now r h =
-      λ passed parts start k same at next.
-      answers_along _ _ (λ i. charge_fault (at i) (same i) (k.counted i))
-      (λ x due a. record {
-        row = a.row;
-        left = ap left_of a.left;
-        nothing = ap is_nothing a.left;
-        blank = ap is_blank a.left;
-        counted = omega (arith, a.count, k.counted, length-append (rows_of passed) (open_row passed ∷ []));
-        memory = packed_more (rows_of passed) (open_row passed) old.count start held now k.counted (omega (arith, charge_room (fault_at place) (length held) old.count due)) k.memory
-            (a.bytes ∙ ap (λ row. take (row_bytes * old.count) held ++ (four_bytes row ++ drop (row_bytes * (old.count + 1)) held)) k.row);
-      }) r h
+      λ passed parts start k same at ends next.
+      answers_along _ _ (λ i. cond (k.nothing i) None (charge_fault (at i) (same i) (k.counted i)))
+      (λ x due a. ended place k (is_nothing old.line.left) (sym k.nothing) due same a) r h

@@ -42,7 +42,7 @@ below_suc n s = ap (map (λ b. b + 1)) (bits_suc s n) ∙ map-append (λ b. b + 
     by true = refl
     by false = refl
 
-rising : (n s : ℕ) → Rises 0 n (below n s)
+pub rising : (n s : ℕ) → Rises 0 n (below n s)
 rising zero s = subst (Rises 0 0) (sym (ap (map (λ b. b + 1)) (bits_start s))) (omega arith)
 rising (suc n) s = subst (Rises 0 (suc n)) (sym (below_suc n s)) (by (has s n) (rising n s))
   where

@@ -1,22 +1,27 @@
 -- A sheet is read part by part: each step, and where reading ends.
-use Rattle.std.proofs.Common.{◌≡◌, ℕ, ◌+◌, ◌<◌, Bool, true, false, cond, not, ◌==◌, List, [], ◌∷◌, ◌++◌, length, take, drop, Some, None, Ok, Err, Option, Result, Decides, sym, refl, ap, ◌∙◌, subst, arith}
+use Rattle.std.proofs.Common.{◌≡◌, ℕ, ◌+◌, ◌<◌, Bool, true, false, cond, not, ◌&&◌, ◌==◌, List, [], ◌∷◌, ◌++◌, length, take, drop, Some, None, Ok, Err, Option, Result, sym, refl, ap, ◌∙◌, subst, arith}
 use Rattle.std.specs.Char.{is_ascii_digit}
 use Rattle.std.proofs.Math.Seq.{take-add}
-use Rattle.std.proofs.lemmas.Bool.Decides.{same_from_decides}
 use Rattle.std.proofs.lemmas.Bool.{eqb-true, false≢true}
 use Rattle.std.proofs.lemmas.List.{take_at}
-use Rattle.marks.specs.declared.refusal.Reason.TheVariants.{BadByte, NoLineEnd}
+use Rattle.std.proofs.lemmas.Option.{none-some}
+use Rattle.marks.specs.declared.refusal.Reason.TheVariants.{BadByte, BadNumber, NoLineEnd}
 use Rattle.marks.specs.declared.refusal.Refusal.{Refusal}
 use Rattle.marks.specs.Refusals.{Answers, due_if, placed_at_two}
 use Rattle.marks.specs.Sets.{no_marks}
 use Rattle.sheets.specs.declared.line.Left.TheVariants.{Nothing}
+use Rattle.sheets.specs.declared.piece.Ahead.{Ahead}
+use Rattle.sheets.specs.declared.piece.Ahead.TheVariants.{More, LineEnd}
 use Rattle.sheets.specs.declared.piece.Piece.{Piece}
 use Rattle.sheets.specs.declared.piece.Place.{Place}
 use Rattle.sheets.specs.declared.reading.Sheet.{Sheet}
+use Rattle.sheets.specs.Ahead.{ahead_in}
 use Rattle.sheets.specs.Cutting.{Part, Digits, Gap, Break, Odd, blank, line_end, part_of_byte, led_by, part_bytes, parts_of, part_of_piece, place_of, line_after, column_after, PartAt, StandsAt, PieceAt}
-use Rattle.sheets.specs.Knowing.{IsSound, Knows, Takes}
-use Rattle.sheets.specs.Lines.{is_nothing, is_blank, left_of, fault_at}
-use Rattle.sheets.specs.Reading.{text_of, rows_of, breaks, fault_after, part_fault, end_fault, Reading, unless_fault, reading_on, text_reading, packed_into}
+use Rattle.sheets.specs.Knowing.{IsSound, ZeroEndsLine, Knows, Precedes, Takes}
+use Rattle.sheets.specs.Lines.{is_nothing, is_zero, is_blank, left_of, fault_at}
+use Rattle.sheets.specs.Reading.{text_of, rows_of, left_number, at_line_start, ends_line, fault_after, number_fault, part_fault, end_fault, Reading, unless_fault, reading_on, text_reading, packed_into}
+use Rattle.sheets.proofs.Numbers.{zero_fault}
+use Rattle.sheets.proofs.Runs.{digit_in_line}
 
 -- ---- the parts of a text
 
@@ -66,23 +71,41 @@ module _ {text : List ℕ} {from to : ℕ} {part : Part} (p : PartAt text from t
       ap (λ k. take k text) p.ends ∙ take-add from (length (part_bytes part)) text
       ∙ ap (λ l. take from text ++ l) (ap (take (length (part_bytes part))) p.bytes ∙ take_at (part_bytes part) (drop to text) (length (part_bytes part)) refl)
 
-led_breaks : (b : ℕ) (parts : List Part) → breaks (led_by b parts) ≡ false
-led_breaks b [] = refl
-led_breaks b (Digits ds ∷ parts) = refl
-led_breaks b (Gap ∷ parts) = refl
-led_breaks b (Break ∷ parts) = refl
-led_breaks b (Odd c ∷ parts) = refl
+led_on : (b : ℕ) (parts : List Part) → Precedes More (led_by b parts)
+led_on b [] = record { line_end = refl; end_of_line = refl }
+led_on b (Digits ds ∷ parts) = record { line_end = refl; end_of_line = refl }
+led_on b (Gap ∷ parts) = record { line_end = refl; end_of_line = refl }
+led_on b (Break ∷ parts) = record { line_end = refl; end_of_line = refl }
+led_on b (Odd c ∷ parts) = record { line_end = refl; end_of_line = refl }
 
--- whether a text begins with a line end
-pub breaks_decides : (text : List ℕ) → Decides (breaks (parts_of text)) ((rest : List ℕ) × (text ≡ line_end ∷ rest))
-breaks_decides [] = (λ t. absurd (false≢true t), λ w. let e : [] ≡ line_end ∷ w.0 = w.1 in cc)
-breaks_decides (b ∷ text) = (by (is_ascii_digit b) (b == blank) (b == line_end) refl, λ w. let e : b ≡ line_end = cc in subst (λ c. breaks (parts_of (c ∷ text)) ≡ true) (sym e) refl)
+-- what comes next in a text is what its parts begin with
+pub precedes : (text : List ℕ) → Precedes (ahead_in text) (parts_of text)
+precedes [] = record { line_end = refl; end_of_line = refl }
+precedes (b ∷ text) = by (is_ascii_digit b) (b == blank) (b == line_end) refl refl refl
   where
-    by : (d s t : Bool) → (b == line_end) ≡ t → breaks (cond d (led_by b (parts_of text)) (cond s Gap (cond t Break (Odd b)) ∷ parts_of text)) ≡ true → (rest : List ℕ) × (b ∷ text ≡ line_end ∷ rest)
-    by true s t e h = absurd (false≢true (sym (led_breaks b (parts_of text)) ∙ h))
-    by false true t e h = absurd (false≢true h)
-    by false false true e h = (text, ap (λ c. c ∷ text) (eqb-true b line_end e))
-    by false false false e h = absurd (false≢true h)
+    by : (d s t : Bool) → is_ascii_digit b ≡ d → (b == blank) ≡ s → (b == line_end) ≡ t
+        → Precedes (cond t LineEnd More) (cond d (led_by b (parts_of text)) (cond s Gap (cond t Break (Odd b)) ∷ parts_of text))
+    by true s true d e f = absurd (false≢true (sym (digit_in_line b d) ∙ f))
+    by true s false d e f = led_on b (parts_of text)
+    by false true true d e f = absurd (omega (arith, eqb-true b blank e, eqb-true b line_end f))
+    by false true false d e f = record { line_end = refl; end_of_line = refl }
+    by false false true d e f = record { line_end = refl; end_of_line = refl }
+    by false false false d e f = record { line_end = refl; end_of_line = refl }
+
+-- a single 0 that is passed without a fault ends its line
+pub zero_ends : (n room : ℕ) (passed : List Part) (part : Part) (parts : List Part) → part_fault n room passed part parts ≡ None → ZeroEndsLine (part ∷ passed) parts
+zero_ends n room passed (Digits ds) parts due = λ z. by (at_line_start passed) (ends_line parts) (zero_fault (fault_after passed) n (left_number passed) ds z) (subst (λ t. cond (t && (at_line_start passed && ends_line parts)) None fault ≡ None) z due)
+  where
+    fault : Option Refusal
+    fault = number_fault (fault_after passed) n (left_number passed) ds
+
+    by : (s t : Bool) → fault ≡ Some (fault_after passed BadNumber) → cond (s && t) None fault ≡ None → t ≡ true
+    by s true bad due = refl
+    by true false bad due = absurd (none-some (fault_after passed BadNumber) (sym due ∙ bad))
+    by false false bad due = absurd (none-some (fault_after passed BadNumber) (sym due ∙ bad))
+zero_ends n room passed Gap parts due = λ z. absurd (false≢true z)
+zero_ends n room passed Break parts due = λ z. absurd (false≢true z)
+zero_ends n room passed (Odd b) parts due = λ z. absurd (false≢true z)
 
 -- ---- reading
 
@@ -92,6 +115,7 @@ pub record Passed (n : ℕ) (text start now : List ℕ) (at : ℕ) (sheet : Shee
   pub front : text_of passed ≡ take at text
   pub onward : reading_on n (length start) passed (parts_of (drop at text)) ≡ text_reading n (length start) text
   pub knows : Knows passed start now sheet
+  pub ends : ZeroEndsLine passed (parts_of (drop at text))
   pub width : sheet.width.number ≡ n
 
 -- the text is refused, and the rows before the fault are packed
@@ -111,7 +135,8 @@ begin n text start sheet width row left count = record {
   passed = [];
   front = refl;
   onward = refl;
-  knows = record { row = row; left = ap left_of left; nothing = ap is_nothing left; blank = ap is_blank left; counted = count; memory = refl };
+  knows = record { row = row; left = ap left_of left; nothing = ap is_nothing left; zero = ap is_zero left; blank = ap is_blank left; counted = count; memory = refl };
+  ends = λ z. absurd (false≢true z);
   width = width;
 }
 
@@ -133,21 +158,21 @@ module _ {n : ℕ} {text start now : List ℕ} {at : ℕ} {sheet : Sheet} (s : P
       let here : refusal ≡ fault_after s.passed BadByte = e ∙ ap (λ l. placed_at_two BadByte (line_after l) (column_after l)) (sym s.front) in
       subst (Stopped n text start now) (sym here) (stopped (at_part p))
 
-  module _ (to : ℕ) (piece : Piece) (before : Bool) (new : Sheet) (held : List ℕ) (p : PieceAt text at to piece)
-      (rest : Decides before ((rest : List ℕ) × (drop to text ≡ line_end ∷ rest))) (same : length now ≡ length start) where
-    answer : (r : Result (Unit {0}) Refusal) → Takes piece before sheet new now held r
+  module _ (to : ℕ) (piece : Piece) (ahead : Ahead) (new : Sheet) (held : List ℕ) (p : PieceAt text at to piece) (next_is : ahead ≡ ahead_in (drop to text)) (same : length now ≡ length start) where
+    answer : (r : Result (Unit {0}) Refusal) → Takes piece ahead sheet new now held r
         → Answers (part_fault n (length start) s.passed (part_of_piece piece) (parts_of (drop to text))) (λ _. Knows (part_of_piece piece ∷ s.passed) start held new) r
     answer r t =
         subst (λ w. Answers (part_fault w (length start) s.passed (part_of_piece piece) (parts_of (drop to text))) (λ _. Knows (part_of_piece piece ∷ s.passed) start held new) r) s.width
-        (t s.passed (parts_of (drop to text)) start s.knows same (placed (place_of piece) p.1) (same_from_decides before (breaks (parts_of (drop to text))) rest (breaks_decides (drop to text))))
+        (t s.passed (parts_of (drop to text)) start s.knows same (placed (place_of piece) p.1)
+        (subst (ZeroEndsLine s.passed) p.0.first s.ends) (subst (λ (a : Ahead). Precedes a (parts_of (drop to text))) (sym next_is) (precedes (drop to text))))
 
-    pub refused : (refusal : Refusal) → Takes piece before sheet new now held (Err refusal) → held ≡ now → Stopped n text start held refusal
+    pub refused : (refusal : Refusal) → Takes piece ahead sheet new now held (Err refusal) → held ≡ now → Stopped n text start held refusal
     refused refusal t kept =
         let due : part_fault n (length start) s.passed (part_of_piece piece) (parts_of (drop to text)) ≡ Some refusal = answer (Err refusal) t in
         subst (λ l. Stopped n text start l refusal) (sym kept)
         (stopped (ap (λ d. unless_fault d (rows_of s.passed) (reading_on n (length start) (part_of_piece piece ∷ s.passed) (parts_of (drop to text)))) (sym due) ∙ at_part p.0))
 
-    pub next : (x : Unit {0}) → Takes piece before sheet new now held (Ok x) → new.width ≡ sheet.width → Passed n text start held to new
+    pub next : (x : Unit {0}) → Takes piece ahead sheet new now held (Ok x) → new.width ≡ sheet.width → Passed n text start held to new
     next x t width =
         let a = answer (Ok x) t in
         record {
@@ -155,6 +180,7 @@ module _ {n : ℕ} {text start now : List ℕ} {at : ℕ} {sheet : Sheet} (s : P
           front = ap (λ l. l ++ part_bytes (part_of_piece piece)) s.front ∙ sym (front_more p.0);
           onward = ap (λ d. unless_fault d (rows_of s.passed) (reading_on n (length start) (part_of_piece piece ∷ s.passed) (parts_of (drop to text)))) (sym a.0) ∙ at_part p.0;
           knows = a.1;
+          ends = zero_ends n (length start) s.passed (part_of_piece piece) (parts_of (drop to text)) a.0;
           width = ap (λ w. w.number) width ∙ s.width;
         }
 

@@ -1,4 +1,5 @@
 pub mod Accepting
+pub mod Ahead
 pub mod Cutting
 pub mod Digits
 pub mod Knowing

@@ -1,5 +1,5 @@
 -- Reading a sheet: which fault is the first, and which rows are packed.
-use Rattle.std.specs.Prelude.{ℕ, ◌+◌, ◌-◌, ◌*◌, Bool, true, false, cond, not, ◌||◌, List, [], ◌∷◌, ◌++◌, length, fold, Some, None, Option, ◌==◌, nat_le, nat_lt, slice_index}
+use Rattle.std.specs.Prelude.{ℕ, ◌+◌, ◌-◌, ◌*◌, Bool, true, false, cond, not, ◌||◌, ◌&&◌, List, [], ◌∷◌, ◌++◌, length, fold, Some, None, Option, ◌==◌, nat_le, nat_lt, slice_index}
 use Rattle.marks.specs.declared.refusal.Reason.{Reason}
 use Rattle.marks.specs.declared.refusal.Reason.TheVariants.{BadByte, BadNumber, BadRise, BadBlank, NoLineEnd, TooMany, NoPlace, Long}
 use Rattle.marks.specs.declared.refusal.Refusal.{Refusal}
@@ -22,20 +22,38 @@ text_of (part ∷ passed) = text_of passed ++ part_bytes part
 abbrev pub worth : List ℕ → ℕ
 worth ds = fold (λ n d. n * 10 + (d - 48)) 0 ds
 
+-- a number that is the digit 0
+abbrev pub is_single_zero : List ℕ → Bool
+is_single_zero [] = false
+is_single_zero (d ∷ []) = d == 48
+is_single_zero (d ∷ c ∷ ds) = false
+
+-- a row with the mark that a number is; 0 is none
+abbrev pub with_number : ℕ → ℕ → ℕ
+with_number row number = cond (number == 0) row (with_bit row (bit_of number))
+
 -- the marks of the line that is not yet ended
 abbrev pub open_row : List Part → ℕ
 open_row [] = no_marks
-open_row (Digits ds ∷ passed) = with_bit (open_row passed) (bit_of (worth ds))
+open_row (Digits ds ∷ passed) = with_number (open_row passed) (worth ds)
 open_row (Gap ∷ passed) = open_row passed
 open_row (Break ∷ passed) = no_marks
 open_row (Odd b ∷ passed) = open_row passed
 
--- the rows of the lines that are ended
+-- a line begins after them
+abbrev pub at_line_start : List Part → Bool
+at_line_start [] = true
+at_line_start (Digits ds ∷ passed) = false
+at_line_start (Gap ∷ passed) = false
+at_line_start (Break ∷ passed) = true
+at_line_start (Odd b ∷ passed) = false
+
+-- the rows of the lines that are ended: an empty line is no charge
 abbrev pub rows_of : List Part → List ℕ
 rows_of [] = []
 rows_of (Digits ds ∷ passed) = rows_of passed
 rows_of (Gap ∷ passed) = rows_of passed
-rows_of (Break ∷ passed) = rows_of passed ++ open_row passed ∷ []
+rows_of (Break ∷ passed) = rows_of passed ++ cond (at_line_start passed) [] (open_row passed ∷ [])
 rows_of (Odd b ∷ passed) = rows_of passed
 
 -- the number at the left in the same line, or 0
@@ -45,14 +63,6 @@ left_number (Digits ds ∷ passed) = worth ds
 left_number (Gap ∷ passed) = left_number passed
 left_number (Break ∷ passed) = 0
 left_number (Odd b ∷ passed) = left_number passed
-
--- a line begins after them
-abbrev pub at_line_start : List Part → Bool
-at_line_start [] = true
-at_line_start (Digits ds ∷ passed) = false
-at_line_start (Gap ∷ passed) = false
-at_line_start (Break ∷ passed) = true
-at_line_start (Odd b ∷ passed) = false
 
 abbrev pub after_blank : List Part → Bool
 after_blank [] = false
@@ -69,9 +79,21 @@ breaks (Gap ∷ parts) = false
 breaks (Break ∷ parts) = true
 breaks (Odd b ∷ parts) = false
 
+-- the line ends before them, by a line end or by the end of the text
+abbrev pub ends_line : List Part → Bool
+ends_line [] = true
+ends_line (Digits ds ∷ parts) = false
+ends_line (Gap ∷ parts) = false
+ends_line (Break ∷ parts) = true
+ends_line (Odd b ∷ parts) = false
+
 -- the refusal that is placed after them
 abbrev pub fault_after : List Part → Reason → Refusal
 fault_after passed reason = placed_at_two reason (line_after (text_of passed)) (column_after (text_of passed))
+
+-- a 0 that is all of its line stands for a charge without marks
+abbrev pub is_no_marks : List Part → List ℕ → List Part → Bool
+is_no_marks passed ds parts = is_single_zero ds && (at_line_start passed && ends_line parts)
 
 -- a number that starts with 0, or exceeds the width n
 abbrev pub is_bad_number : ℕ → List ℕ → Bool
@@ -97,11 +119,11 @@ charge_fault placed room count =
     ∷ due_if (nat_lt room (row_bytes * (count + 1))) (placed NoPlace)
     ∷ [])
 
--- The fault at a part of a sheet, where these parts are passed and those follow.
+-- The fault at a part of a sheet, where these parts are passed and those follow: none at the 0 of a charge without marks, and none at the end of an empty line.
 abbrev pub part_fault : ℕ → ℕ → List Part → Part → List Part → Option Refusal
-part_fault n room passed (Digits ds) parts = number_fault (fault_after passed) n (left_number passed) ds
+part_fault n room passed (Digits ds) parts = cond (is_no_marks passed ds parts) None (number_fault (fault_after passed) n (left_number passed) ds)
 part_fault n room passed Gap parts = due_if (is_bad_blank passed parts) (fault_after passed BadBlank)
-part_fault n room passed Break parts = charge_fault (fault_after passed) room (length (rows_of passed))
+part_fault n room passed Break parts = cond (at_line_start passed) None (charge_fault (fault_after passed) room (length (rows_of passed)))
 part_fault n room passed (Odd b) parts = Some (fault_after passed BadByte)
 
 -- the fault at the end of the text

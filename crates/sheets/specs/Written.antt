@@ -5,10 +5,11 @@ use Rattle.marks.specs.declared.refusal.Refusal.{Refusal}
 use Rattle.marks.specs.Memory.{put_in_front}
 use Rattle.marks.specs.Refusals.{Answers, unplaced, due_if, first_due}
 use Rattle.tables.specs.Packed.{packed_rows, packed_refusal}
+use Rattle.sheets.specs.Accepting.{HasNoEmptyLine}
 use Rattle.sheets.specs.Reading.{reading, packed_into}
 use Rattle.sheets.specs.Rendering.{render, packed_bytes, most_bytes}
 
--- the sheet of packed bytes
+-- the sheet of packed bytes without empty lines
 abbrev pub sheet_of : List ℕ → List ℕ
 sheet_of bytes = render (packed_rows bytes)
 
@@ -26,8 +27,9 @@ abbrev pub Writes : List ℕ → ℕ → List ℕ → List ℕ → Result ℕ Re
 Writes bytes n old new =
     Answers (write_refusal bytes n (length old)) (λ size. (size ≡ length (sheet_of bytes)) × (new ≡ put_in_front (sheet_of bytes) old))
 
--- The text is the sheet of packed bytes at the width n: read into memory that has room for them, it is accepted, and packs to the same bytes; and no other text that is accepted packs to them.
+-- The text is the sheet of packed bytes at the width n, and none of its lines is empty: read into memory that has room for them, it is accepted, and packs to the same bytes; and no other text without an empty line that is accepted packs to them.
 pub record IsSheetOf (n : ℕ) (bytes text : List ℕ) : Type 0 where
+  pub filled : HasNoEmptyLine text
   pub back : (memory : List ℕ) → length bytes ≤ length memory
       → ((reading n (length memory) text).refusal ≡ None) × (packed_into (reading n (length memory) text).rows memory ≡ put_in_front bytes memory)
-  pub only : (other : List ℕ) (room : ℕ) → (reading n room other).refusal ≡ None → packed_bytes (reading n room other).rows ≡ bytes → other ≡ text
+  pub only : (other : List ℕ) (room : ℕ) → HasNoEmptyLine other → (reading n room other).refusal ≡ None → packed_bytes (reading n room other).rows ≡ bytes → other ≡ text

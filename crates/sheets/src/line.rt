@@ -1,19 +1,21 @@
 // A line of a sheet while it is read.
-ghost use Rattle.std.specs.Prelude.{◌≡◌, ◌<◌, ◌||◌, not, true, false, length, MatchOption, nat_le};
+ghost use Rattle.std.specs.Prelude.{◌≡◌, ◌<◌, ◌||◌, ◌&&◌, not, true, false, cond, length, MatchOption, None, nat_le};
 ghost use Rattle.std.specs.Str.{all_ascii_digits};
 ghost use Rattle.marks.specs.Refusals.{Answers, due_if};
 ghost use Rattle.marks.specs.Sets.{no_marks};
-ghost use Rattle.sheets.specs.Reading.{worth, is_bad_number, number_fault};
-ghost use Rattle.sheets.specs.Lines.{is_nothing, is_blank, left_of, fault_at, HasAdded, HasParted};
+ghost use Rattle.sheets.specs.Ahead.{is_line_end, is_end_of_line};
+ghost use Rattle.sheets.specs.Reading.{worth, is_bad_number, is_single_zero, number_fault};
+ghost use Rattle.sheets.specs.Lines.{is_nothing, is_mark, left_of, fault_at, HasAdded, HasParted};
 
 use crate::digits::worth;
-use crate::piece::Place;
+use crate::piece::{Ahead, Place};
 use marks::{Mark, MarkSet, Reason, Refusal, Width};
 
-/// What stands at the left in a line: nothing, a mark, or a mark and a blank.
+/// What stands at the left in a line: nothing, the 0 of a charge without marks, a mark, or a mark and a blank.
 #[derive(Clone, Copy, Debug)]
 pub(crate) enum Left {
     Nothing,
+    Zero,
     Mark(Mark),
     Blank(Mark),
 }
@@ -24,6 +26,13 @@ pub(crate) struct Line {
     // Its marks so far.
     pub(crate) row: MarkSet,
     left: Left,
+}
+
+// Whether digits are a single 0.
+fn is_single_zero(digits: &[u8]) -> bool
+    ensures { result ≡ is_single_zero digits.now }
+{
+    matches!(digits, [b'0'])
 }
 
 // The mark that digits write, unless they start with 0 or exceed the width.
@@ -45,7 +54,7 @@ impl Left {
         ensures { result ≡ not (nat_le mark.number (left_of self)) }
     {
         match self {
-            Left::Nothing => true,
+            Left::Nothing | Left::Zero => true,
             Left::Mark(left) | Left::Blank(left) => left.get() < mark.get(),
         }
     }
@@ -70,12 +79,22 @@ impl Line {
         !matches!(self.left, Left::Nothing)
     }
 
-    // Adds a number.
-    pub(crate) fn add(&mut self, digits: &[u8], place: Place, width: Width) -> Result<(), Refusal>
+    // Adds a number: a mark, or the 0 that is all of its line.
+    pub(crate) fn add(
+        &mut self,
+        digits: &[u8],
+        place: Place,
+        width: Width,
+        ahead: Ahead,
+    ) -> Result<(), Refusal>
         requires some { 0 < length digits.now }
         requires all { all_ascii_digits digits.now ≡ true }
-        ensures { Answers (number_fault (fault_at place) width.number (left_of self.old.left) digits.now) (λ _. HasAdded self.old self.new (worth digits.now)) result }
+        ensures { Answers (cond (is_single_zero digits.now && (is_nothing self.old.left && is_end_of_line ahead)) None (number_fault (fault_at place) width.number (left_of self.old.left) digits.now)) (λ _. HasAdded self.old self.new digits.now) result }
     {
+        if is_single_zero(digits) && !self.is_begun() && ahead.is_end_of_line() {
+            self.left = Left::Zero;
+            return Ok(());
+        }
         let mark = mark(digits, width).ok_or_else(|| place.refusal(Reason::BadNumber))?;
         if !self.left.is_below(mark) {
             return Err(place.refusal(Reason::BadRise));
@@ -85,12 +104,12 @@ impl Line {
         Ok(())
     }
 
-    // Passes a blank.
-    pub(crate) fn part(&mut self, place: Place, before_line_end: bool) -> Result<(), Refusal>
-        ensures { Answers (due_if (is_nothing self.old.left || (is_blank self.old.left || before_line_end)) (fault_at place Reason.BadBlank)) (λ _. HasParted self.old self.new) result }
+    // Passes a blank, which belongs between two marks.
+    pub(crate) fn part(&mut self, place: Place, ahead: Ahead) -> Result<(), Refusal>
+        ensures { Answers (due_if (not (is_mark self.old.left) || is_line_end ahead) (fault_at place Reason.BadBlank)) (λ _. HasParted self.old self.new) result }
     {
         match self.left {
-            Left::Mark(mark) if !before_line_end => {
+            Left::Mark(mark) if !ahead.is_line_end() => {
                 self.left = Left::Blank(mark);
                 Ok(())
             }

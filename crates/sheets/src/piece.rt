@@ -1,5 +1,6 @@
-// The pieces of a sheet.
+// The pieces of a sheet, and what comes next in a text.
 ghost use Rattle.std.specs.Prelude.{◌≡◌};
+ghost use Rattle.sheets.specs.Ahead.{is_line_end, is_end_of_line};
 ghost use Rattle.sheets.specs.Lines.{fault_at};
 
 use marks::{Reason, Refusal};
@@ -26,4 +27,28 @@ pub enum Piece<'a> {
     Number { digits: &'a [u8], place: Place },
     Blank(Place),
     LineEnd(Place),
+}
+
+// What comes next in a text: more of the line, a line end, or the end of the text.
+#[derive(Clone, Copy, Debug)]
+pub(crate) enum Ahead {
+    More,
+    LineEnd,
+    End,
+}
+
+impl Ahead {
+    // Whether it is a line end.
+    pub(crate) fn is_line_end(self) -> bool
+        ensures { result ≡ is_line_end self }
+    {
+        matches!(self, Ahead::LineEnd)
+    }
+
+    // Whether the line ends here, by a line end or by the end of the text.
+    pub(crate) fn is_end_of_line(self) -> bool
+        ensures { result ≡ is_end_of_line self }
+    {
+        !matches!(self, Ahead::More)
+    }
 }

@@ -1,17 +1,17 @@
 // Reading sheets.
-ghost use Rattle.std.specs.Prelude.{◌≡◌, length, OnErr};
+ghost use Rattle.std.specs.Prelude.{◌≡◌, cond, length, None, OnErr};
 ghost use Rattle.marks.specs.Refusals.{Answers};
 ghost use Rattle.marks.specs.Sets.{no_marks};
 ghost use Rattle.sheets.specs.Accepting.{AcceptsOnlySheets, AcceptsSheets, IsOneSheet};
 ghost use Rattle.sheets.specs.Cutting.{part_of_piece};
-ghost use Rattle.sheets.specs.Lines.{fault_at};
-ghost use Rattle.sheets.specs.Knowing.{HasPacked, IsSound, Takes};
+ghost use Rattle.sheets.specs.Lines.{fault_at, is_nothing};
+ghost use Rattle.sheets.specs.Knowing.{HasPacked, HasEnded, IsSound, Takes};
 ghost use Rattle.sheets.specs.Reading.{charge_fault, text_reading, reading, packed_into};
 ghost use Rattle.sheets.specs.declared.line.Left.{Left};
 
 use crate::MOST_BYTES;
 use crate::line::Line;
-use crate::piece::{Piece, Place};
+use crate::piece::{Ahead, Piece, Place};
 use crate::reader::Reader;
 use marks::{MOST_CHARGES, Reason, Refusal, Width};
 use tables::ROW_BYTES;
@@ -39,23 +39,30 @@ impl Sheet {
         }
     }
 
-    // Takes the next piece, and packs the line that it ends.
-    fn take(
-        &mut self,
-        piece: Piece<'_>,
-        before_line_end: bool,
-        memory: &mut [u8],
-    ) -> Result<(), Refusal>
+    // Takes the next piece, and packs the line that it ends, unless that is empty.
+    fn take(&mut self, piece: Piece<'_>, ahead: Ahead, memory: &mut [u8]) -> Result<(), Refusal>
         requires { IsSound (part_of_piece piece) }
-        ensures taken { Takes piece.entry before_line_end self.old self.new memory.old memory.new result }
+        ensures taken { Takes piece.entry ahead self.old self.new memory.old memory.new result }
         ensures kept { OnErr result (memory.new ≡ memory.old) }
         ensures width { self.new.width ≡ self.old.width }
     {
         match piece {
-            Piece::Number { digits, place } => self.line.add(digits, place, self.width),
-            Piece::Blank(place) => self.line.part(place, before_line_end),
-            Piece::LineEnd(place) => self.pack(place, memory),
+            Piece::Number { digits, place } => self.line.add(digits, place, self.width, ahead),
+            Piece::Blank(place) => self.line.part(place, ahead),
+            Piece::LineEnd(place) => self.end_line(place, memory),
         }
+    }
+
+    // Ends the line at a place: an empty line is passed, and any other is packed.
+    fn end_line(&mut self, place: Place, memory: &mut [u8]) -> Result<(), Refusal>
+        ensures answer { Answers (cond (is_nothing self.old.line.left) None (charge_fault (fault_at place) (length memory.old) self.old.count)) (λ _. HasEnded self.old self.new memory.old memory.new) result }
+        ensures kept { OnErr result (memory.new ≡ memory.old) }
+        ensures width { self.new.width ≡ self.old.width }
+    {
+        if !self.line.is_begun() {
+            return Ok(());
+        }
+        self.pack(place, memory)
     }
 
     // Packs the line, which ends at a place, and begins the next.
@@ -88,7 +95,7 @@ fn read_text(text: &[u8], width: Width, memory: &mut [u8]) -> Result<usize, Refu
     let mut reader = Reader::new(text);
     let mut sheet = Sheet::new(width);
     while let Some(piece) = reader.next()? {
-        sheet.take(piece, reader.is_before_line_end(), memory)?;
+        sheet.take(piece, reader.ahead(), memory)?;
     }
     if sheet.line.is_begun() {
         return Err(reader.place().refusal(Reason::NoLineEnd));
@@ -96,9 +103,10 @@ fn read_text(text: &[u8], width: Width, memory: &mut [u8]) -> Result<usize, Refu
     Ok(sheet.count)
 }
 
-/// Packs each line of a sheet into four bytes of memory, and answers how many charges it packed.
+/// Packs each charge of a sheet into four bytes of memory, and answers how many it packed.
+/// Each line but an empty one is a charge; a charge without marks is the line `0`.
 /// Refused: LONG above 1,048,576 bytes; then the first fault from the left to the right, with its line and its column.
-/// The lines before a fault stay packed; every other byte of memory is as it was.
+/// The charges of the lines before a fault stay packed; every other byte of memory is as it was.
 pub fn read_sheet(text: &[u8], width: Width, memory: &mut [u8]) -> Result<usize, Refusal>
     ensures answer { let read = reading width.number (length memory.old) text.now in Answers read.refusal (λ count. count ≡ length read.rows) result }
     ensures memory { memory.new ≡ packed_into (reading width.number (length memory.old) text.now).rows memory.old }

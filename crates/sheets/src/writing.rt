@@ -2,7 +2,7 @@
 ghost use Rattle.std.specs.Prelude.{◌≡◌, ◌+◌, ◌≤◌, ◌++◌, length, take, drop, decimal, IfOk};
 ghost use Rattle.marks.specs.Memory.{put_in_front};
 ghost use Rattle.marks.specs.Refusals.{Kept};
-ghost use Rattle.sheets.specs.Rendering.{marks_of, spaced_marks, row_text, render};
+ghost use Rattle.sheets.specs.Rendering.{row_words, row_text, render};
 ghost use Rattle.sheets.specs.Written.{Writes, IsSheetOf};
 
 use crate::MOST_BYTES;
@@ -25,14 +25,15 @@ fn add_mark(text: &mut Text, mark: Mark)
     text.push_str(Buffer::new().format(mark.get()));
 }
 
-// The marks of a row, one blank between neighbours.
+// What the line of a row says: its marks, one blank between neighbours, or 0 if it has none.
 fn text_of_marks(row: MarkSet) -> Text
-    ensures value { result.bytes ≡ spaced_marks (marks_of row.bits) }
+    ensures value { result.bytes ≡ row_words row.bits }
     ensures room { length result.bytes + 1 ≤ LONGEST }
 {
     let mut text = Text::new();
     let mut marks = row.marks();
     let Some(first) = marks.next() else {
+        text.push('0');
         return text;
     };
     add_mark(&mut text, first);
@@ -43,7 +44,7 @@ fn text_of_marks(row: MarkSet) -> Text
     text
 }
 
-// The line of a row: its marks, and the line end.
+// The line of a row, with its line end.
 fn line_of(row: MarkSet) -> Text
     ensures value { result.bytes ≡ row_text row.bits }
     ensures size { length result.bytes ≤ LONGEST }
@@ -53,7 +54,7 @@ fn line_of(row: MarkSet) -> Text
     line
 }
 
-// How many bytes the sheet of a table has.
+// How many bytes the sheet of a table without empty lines has.
 fn sheet_size<T: Table>(table: &T) -> usize
     ensures { result ≡ length (render (T.Table.meaning table.now).rows) }
 {
@@ -73,7 +74,7 @@ fn put(line: &Text, text: &mut [u8], from: usize) -> usize
     end
 }
 
-// Writes the sheet of a table into the front of a text.
+// Writes the sheet of a table without empty lines into the front of a text.
 fn write_lines<T: Table>(table: &T, text: &mut [u8])
     requires { length (render (T.Table.meaning table.now).rows) ≤ length text.old }
     ensures { text.new ≡ put_in_front (render (T.Table.meaning table.now).rows) text.old }
@@ -84,7 +85,7 @@ fn write_lines<T: Table>(table: &T, text: &mut [u8])
     }
 }
 
-/// Writes packed bytes as a sheet into the front of a text, and answers how many bytes it has. Bytes past it are as they were.
+/// Writes packed bytes as a sheet without empty lines into the front of a text, and answers how many bytes it has. Bytes past it are as they were.
 /// Refused: as the packed table of this width is, RAGGED, TOO MANY or STRAY; LONG if the sheet would have more than 1,048,576 bytes; NO PLACE if it does not fit the text.
 /// A refusal writes nothing.
 #[tactic(auto, unfolding(crate::specs::Written::write_refusal))]

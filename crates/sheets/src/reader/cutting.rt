@@ -1,9 +1,10 @@
 // What a reader does.
 ghost use Rattle.std.specs.Prelude.{◌≡◌, ℕ, ◌+◌, ◌<◌, true, List, ◌∷◌, length, drop, slice_index, Decides};
 ghost use Rattle.std.specs.Char.{is_ascii_digit};
+ghost use Rattle.sheets.specs.Ahead.{ahead_in};
 ghost use Rattle.sheets.specs.Cutting.{line_end, Digits, PartAt, StandsAt, Cut};
 
-use crate::piece::{Piece, Place};
+use crate::piece::{Ahead, Piece, Place};
 use crate::reader::Reader;
 use marks::{Reason, Refusal};
 
@@ -98,10 +99,23 @@ impl<'a> Reader<'a> {
         }
     }
 
+    // What comes next.
+    pub(crate) fn ahead(&self) -> Ahead
+        ensures { result ≡ ahead_in (drop self.now.position self.now.text.now) }
+    {
+        if self.position >= self.text.len() {
+            return Ahead::End;
+        }
+        match self.text[self.position] as char {
+            '\n' => Ahead::LineEnd,
+            _ => Ahead::More,
+        }
+    }
+
     /// Whether a line end comes next.
     pub fn is_before_line_end(&self) -> bool
         ensures { Decides result ((rest : List ℕ) × (drop self.now.position self.now.text.now ≡ line_end ∷ rest)) }
     {
-        self.position < self.text.len() && self.text[self.position] as char == '\n'
+        self.ahead().is_line_end()
     }
 }

@@ -1,10 +1,11 @@
-use Rattle.std.proofs.Common.{◌≡◌, ℕ, List, [], ◌∷◌, length, drop, None, Ok, Err, Decides, sym, ap, ◌∙◌, subst, rules, arith}
+use Rattle.std.proofs.Common.{◌≡◌, [], length, drop, None, Ok, Err, sym, ap, ◌∙◌, subst, rules, arith}
 use Rattle.std.proofs.lemmas.Bool.{not-false, not-true}
-use Rattle.sheets.specs.Cutting.{line_end, PieceAt, Cut, StandsAt}
+use Rattle.sheets.specs.Ahead.{ahead_in}
+use Rattle.sheets.specs.Cutting.{PieceAt, Cut, StandsAt}
 use Rattle.sheets.specs.Lines.{is_nothing}
 use Rattle.sheets.proofs.Steps.{Stopped, begin, odd, refused, next, unfinished, finished, part_sound, part_some}
 use Rattle.sheets.proofs.reading.read_text.Goals as goal
-use Rattle.sheets.proofs.reading.read_text.Goals.{In-Some, After-is_before_line_end, In_err-take, In_err-piece, In_default}
+use Rattle.sheets.proofs.reading.read_text.Goals.{In-Some, After-ahead, In_err-take, In_err-piece, In_default}
 
 -- the piece that was read, in the text
 piece_at : (c : In-Some) → PieceAt c.args.text.now c.loop-piece.reader.position c.next.new.self.position c.in-Some.piece
@@ -30,40 +31,39 @@ loop-piece-smaller c =
     omega (arith, part_some p.0, p.0.inside, ap length c.next.ensures.text, ap length texts)
 
 -- what is known after the piece, however it was taken
-module _ (c : After-is_before_line_end) where
+module _ (c : After-ahead) where
   same_text : c.next.new.self.text.now ≡ c.args.text.now
   same_text = c.next.ensures.text ∙ c.loop-piece.invariant.text
 
-  ends : Decides c.is_before_line_end.result ((rest : List ℕ) × (drop c.next.new.self.position c.args.text.now ≡ line_end ∷ rest))
-  ends = subst (λ t. Decides c.is_before_line_end.result ((rest : List ℕ) × (drop c.next.new.self.position t ≡ line_end ∷ rest))) same_text c.is_before_line_end.ensures
+  comes : c.ahead.result ≡ ahead_in (drop c.next.new.self.position c.args.text.now)
+  comes = c.ahead.ensures ∙ ap (λ t. ahead_in (drop c.next.new.self.position t)) same_text
 
 pub loop-piece-preserved : goal.loop-piece-preserved
 loop-piece-preserved c =
     let place = goal.at.loop-piece-preserved c in
     let p = piece_at place.In-Some in
     record {
-      text = same_text place.After-is_before_line_end;
-      passed = next c.loop-piece.invariant.passed c.next.new.self.position c.in-Some.piece c.is_before_line_end.result c.take.new.self c.take.new.memory p
-          (ends place.After-is_before_line_end) c.loop-piece.auto.memory c.in_ok-take.field-0 c.in_ok-take.ensures.taken c.in_ok-take.ensures.width;
+      text = same_text place.After-ahead;
+      passed = next c.loop-piece.invariant.passed c.next.new.self.position c.in-Some.piece c.ahead.result c.take.new.self c.take.new.memory p
+          (comes place.After-ahead) c.loop-piece.auto.memory c.in_ok-take.field-0 c.in_ok-take.ensures.taken c.in_ok-take.ensures.width;
     }
 
 stop : (c : In_err-take) → PieceAt c.args.text.now c.loop-piece.reader.position c.next.new.self.position c.in-Some.piece
-    → Decides c.is_before_line_end.result ((rest : List ℕ) × (drop c.next.new.self.position c.args.text.now ≡ line_end ∷ rest))
-    → Stopped c.args.width.number c.args.text.now c.args.memory.now c.take.new.memory c.in_err-take.field-0.0
+    → c.ahead.result ≡ ahead_in (drop c.next.new.self.position c.args.text.now) → Stopped c.args.width.number c.args.text.now c.args.memory.now c.take.new.memory c.in_err-take.field-0.0
 stop c p e =
-    refused c.loop-piece.invariant.passed c.next.new.self.position c.in-Some.piece c.is_before_line_end.result c.take.new.self c.take.new.memory p e c.loop-piece.auto.memory
+    refused c.loop-piece.invariant.passed c.next.new.self.position c.in-Some.piece c.ahead.result c.take.new.self c.take.new.memory p e c.loop-piece.auto.memory
     c.in_err-take.field-0.0 c.in_err-take.ensures.taken c.in_err-take.ensures.kept
 
 pub returns-in_err-take-clause-answer : goal.returns-in_err-take-clause-answer
 returns-in_err-take-clause-answer c =
     let place = goal.at.returns-in_err-take-clause-answer c in
-    let due = (stop place.In_err-take (piece_at place.In-Some) (ends place.After-is_before_line_end)).due in
+    let due = (stop place.In_err-take (piece_at place.In-Some) (comes place.After-ahead)).due in
     search rules
 
 pub returns-in_err-take-clause-memory : goal.returns-in_err-take-clause-memory
 returns-in_err-take-clause-memory c =
     let place = goal.at.returns-in_err-take-clause-memory c in
-    (stop place.In_err-take (piece_at place.In-Some) (ends place.After-is_before_line_end)).memory
+    (stop place.In_err-take (piece_at place.In-Some) (comes place.After-ahead)).memory
 
 -- a byte that no sheet has
 bad_byte : (c : In_err-piece) → Stopped c.args.width.number c.args.text.now c.args.memory.now c.loop-piece.memory c.in_err-piece.field-0.0

@@ -22,8 +22,8 @@ pub struct Node {
 }
 
 // What a list is made of: a table, a limit, and the least support.
-// Its ghost query is spelled out as `asked ..` in each contract: as an `impl Model` it would put bounds on this type too, which is no plainer.
-// The public calls take its parts one by one: a caller would make a query only to have it taken apart, which is no plainer.
+// Its ghost query is spelled out as `asked ..` in each contract, so that this type has no bounds.
+// The public calls take its parts one by one, as their callers have them.
 #[derive(Drop)]
 pub(crate) struct Query<T, W> {
     pub table: T,
@@ -39,7 +39,7 @@ fn clashes(width: Width, ins: MarkSet, outs: MarkSet) -> bool
     !ins.intersection(outs).is_empty() || !ins.is_part_of(all) || !outs.is_part_of(all)
 }
 
-// The marks put in and those put out stay two parameters: a pair would be built for each call only to be taken apart, which is no plainer.
+// The marks put in and those put out are two parameters, as a node has them.
 impl<T: Table, W: Limit> Query<T, W> {
     // Whether the closure of a set is wanted, and has no mark that is put out. The limit is asked about the closure, not about the set.
     fn wants(&self, holding: Holding, outs: MarkSet) -> bool

@@ -9,7 +9,7 @@ ghost use Rattle.std.proofs.Common.{rules};
 use crate::record::{RECORD_BYTES, Record, RecordBytes};
 use marks::{Reason, Refusal, StrictOrder, first_unordered};
 
-// By the set, in list order. By the trait of the check of neighbours, a rule of the product: `PartialOrd` would have to tell apart records of one set.
+// By the set, in list order, for the check of neighbours. Not `PartialOrd`, which has to tell apart records of one set.
 impl StrictOrder for Record {
     ghost before = { λ p q. Before p.set.bits q.set.bits };
 
@@ -50,7 +50,7 @@ pub fn read_back(bytes: &[u8], memory: &mut [Record]) -> Result<usize, Refusal>
         return Err(Refusal::unplaced(Reason::NoPlace));
     }
     fill(chunks, memory);
-    // Two answers of the call, so a match: in a `map_or` the fault would stand inside a closure, which is no plainer.
+    // The place of the fault, or none, decides between the two answers of the call.
     match first_unordered(&memory[0..count]) {
         Some(place) => Err(Refusal::at(Reason::OutOfOrder, place as u64)),
         None => Ok(count),

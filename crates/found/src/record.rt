@@ -26,7 +26,7 @@ impl Record {
         ensures value { result ≡ record_bytes self }
         ensures back { record_at result 0 ≡ self }
     {
-        // By ranges, which are the layout itself: chunks of two lengths over one array cannot be lent at once, and one after the other they are no plainer.
+        // By ranges, which are the layout itself.
         let mut bytes = [0; RECORD_BYTES];
         bytes[0..4].copy_from_slice(&self.set.bits().to_le_bytes());
         bytes[4..8].copy_from_slice(&self.support.to_le_bytes());

@@ -73,7 +73,7 @@ fn first_off_range(pairs: &[Pair]) -> Option<u64>
     first_passing(pairs, |pair| pair.is_off_range())
 }
 
-// How many pairs at the front come each after the one at its left. A count, and all pairs where none is out of order: an Option of the first that is out would be no plainer, since the lesser of two places is wanted.
+// How many pairs at the front come each after the one at its left: all pairs where none is out of order. A count, since the lesser of two places is wanted.
 fn ordered_front(pairs: &[Pair]) -> usize
     ensures within { result ≤ length pairs.now }
     ensures rising { Rising PairBefore pairs.now result }

@@ -29,7 +29,7 @@ pub struct Number<K, const MOST: u32> {
     ghost range: { InRange MOST number },
 }
 
-// By hand: a derived `Clone` was tried, by `derive` and by `derive_where`, and is refused for a type with a parameter and a ghost field (`derive-over-ghost-field`).
+// By hand, since none can be derived for a type with a parameter and a ghost field (`derive-over-ghost-field`).
 impl<K, const MOST: u32> Clone for Number<K, MOST> {
     ghost is_clone = { λ x y. y ≡ x };
 
@@ -42,7 +42,7 @@ impl<K, const MOST: u32> Clone for Number<K, MOST> {
 
 impl<K, const MOST: u32> Copy for Number<K, MOST> {}
 
-// `new` and `get`, as the library's `NonZeroU32` has them: `TryFrom` and `From` beside them would be second names for the same, which is no plainer.
+// `new` and `get`, as the library's `NonZeroU32` has them.
 impl<K, const MOST: u32> Number<K, MOST> {
     /// The number of the kind; refused RANGE outside 1 to `MOST`.
     pub fn new(number: u64) -> Result<Number<K, MOST>, Refusal>

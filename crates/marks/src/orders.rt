@@ -5,7 +5,7 @@ ghost use Rattle.marks.specs.SetOrder.{before_irrefl, before_trans};
 
 use crate::sets::MarkSet;
 
-// A trait of its own, by a rule of the product: the check serves every strict order, and `PartialOrd` has to answer `Equal` exactly where `==` holds, as the order of records by their sets does not.
+// A trait of its own, so that the check serves every strict order: `PartialOrd` has to answer `Equal` exactly where `==` holds, as the order of records by their sets does not.
 /// A kind of element that has a strict order.
 pub trait StrictOrder {
     /// The one comes before the other.

@@ -35,13 +35,13 @@ pub enum Reason {
 #[derive(Clone, Copy, PartialEq, Eq, Debug)]
 pub struct Refusal {
     reason: Reason,
-    // By a rule of the product a place that is not named is 0.
+    // Places count from 1, so one that is not named is 0.
     first: u64,
     second: u64,
 }
 
 impl Reason {
-    // A method, and not `From`: `u64::from(reason)` would not say which number it is, so it is no plainer.
+    // A method, and not `From`, since its name says which number it is.
     /// The number by which users know the reason: no other reason has it.
     pub fn number(self) -> u64
         ensures value { result ≡ number_of self }

@@ -16,7 +16,7 @@ pub struct MarkSet {
 }
 
 impl MarkSet {
-    // `from_bits` and `bits`, and not `From`, which is no plainer: it would let any number pass for a set with nothing said of bits.
+    // `from_bits` and `bits`, and not `From`, which would let any number pass for a set with nothing said of bits.
     /// The set that is kept as this number.
     pub fn from_bits(bits: u32) -> MarkSet
         ensures { result.bits ≡ bits }

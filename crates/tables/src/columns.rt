@@ -70,7 +70,7 @@ impl<'a> Columns<'a> {
     }
 
     // Whether a mark has a bit past the count.
-    // By index, since one word is read: `chunks_exact` and `nth` and `last` for it are no plainer.
+    // By index, since one word is read: the last of the mark.
     fn spills(&self, mark: Mark) -> bool
         requires { mark.number ≤ self.now.width.number }
         ensures { result ≡ not (past_count self.now.words.now self.now.count (bit_of mark.number) == no_marks) }
@@ -81,7 +81,7 @@ impl<'a> Columns<'a> {
     }
 
     // Whether a mark has a charge's bit.
-    // By index, since one word is read: `chunks_exact` and `nth` for it are no plainer.
+    // By index, since one word is read.
     fn holds(&self, mark: Mark, charge: Charge) -> bool
         requires mark { mark.number ≤ self.now.width.number }
         requires charge { charge.number ≤ self.now.count }

@@ -37,7 +37,7 @@ impl Node {
     }
 }
 
-// `opened` is lent to each step: in one struct with the query, each step would also have to promise that the query stays, which is no plainer.
+// `opened` is lent to each step beside the query, which no step changes.
 impl<T: Table, W: Limit> Query<T, W> {
     // Opens the node with these marks put in and put out, and counts it.
     fn open(&self, ins: MarkSet, outs: MarkSet, opened: &mut u64) -> Option<Node>

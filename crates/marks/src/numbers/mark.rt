@@ -27,7 +27,7 @@ impl Number<MarkKind, MOST_MARKS> {
         Number::of(1)
     }
 
-    // Not one with the `next` of charges: this takes a width, which is no greater than the last mark, and that takes any count; a common one over plain numbers is no plainer.
+    // It takes a width, which is no greater than the last mark, where the `next` of charges takes any count.
     /// The mark after this one, if it is up to `width`.
     pub fn next(self, width: Width) -> Option<Mark>
         ensures { MatchOption result (width.number ≤ self.number) (λ m. (m.number ≡ self.number + 1) × (self.number < width.number)) }

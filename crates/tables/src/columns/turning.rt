@@ -9,7 +9,7 @@ use crate::table::Table;
 use marks::{Charge, MarkSet, Reason, Refusal};
 
 // Puts a charge's marks into the words, `per` to a mark.
-// By index, since one word of a mark is written: `chunks_exact_mut` and `nth` for it are no plainer.
+// By index, since one word of a mark is written.
 fn put(words: &mut [u64], per: usize, charge: Charge, row: MarkSet)
     requires bound { per ≤ 1024 }
     requires place { charge.number ≤ per * word_bits }

@@ -67,7 +67,7 @@ impl Choice {
         if let Some(place) = first_repeat(numbers) {
             return Err(Refusal::at(Reason::BadChoice, place));
         }
-        // Only an empty list has no width here: without repeats it has at most 32 marks. A `map_err` that drops the width's own refusal for this one is no plainer.
+        // Only an empty list has no width here: without repeats it has at most 32 marks. BAD CHOICE stands in the place of the width's own refusal.
         let Ok(width) = Width::new(numbers.len() as u64) else {
             return Err(Refusal::at(Reason::BadChoice, 1));
         };

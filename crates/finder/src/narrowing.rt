@@ -51,10 +51,10 @@ impl<T: Table, W: Limit> Query<T, W> {
     }
 
     // The marks up to the width that are in no listed set that fits. A mark that is put in is in each of them. One that is put out was skipped by the tally: its record has support 0, so it is in none.
-    fn excluded(&self, tally: &Tally, ins: MarkSet, outs: MarkSet) -> MarkSet
-        ensures { result.bits ≡ picked (λ b. not (has ins.bits b) && not (holding_passes (asked T.Table.meaning W.Limit.allowed self.now) outs.bits (slice_index_or tally.now.marks b no_holding))) (T.Table.meaning self.now.table).width }
+    fn excluded(&self, tally: &Tally, width: Width, ins: MarkSet, outs: MarkSet) -> MarkSet
+        ensures { result.bits ≡ picked (λ b. not (has ins.bits b) && not (holding_passes (asked T.Table.meaning W.Limit.allowed self.now) outs.bits (slice_index_or tally.now.marks b no_holding))) width.number }
     {
-        let all = MarkSet::up_to(self.table.width());
+        let all = MarkSet::up_to(width);
         all.filter(|mark| !ins.holds(mark) && !self.wants(tally.with(mark), outs))
     }
 
@@ -62,7 +62,8 @@ impl<T: Table, W: Limit> Query<T, W> {
     pub fn narrow(&self, ins: MarkSet, outs: MarkSet) -> Result<Node, Refusal>
         ensures { Answers (narrow_refusal (asked T.Table.meaning W.Limit.allowed self.now) ins.bits outs.bits) (λ node. node ≡ node_of (asked T.Table.meaning W.Limit.allowed self.now) ins.bits outs.bits) result }
     {
-        if clashes(self.table.width(), ins, outs) {
+        let width = self.table.width();
+        if clashes(width, ins, outs) {
             return Err(Refusal::unplaced(Reason::Clash));
         }
         let tally = Tally::besides(&self.table, ins, ins.union(outs));
@@ -72,7 +73,7 @@ impl<T: Table, W: Limit> Query<T, W> {
         }
         Ok(Node {
             ins: own.closure(),
-            outs: self.excluded(&tally, ins, outs),
+            outs: self.excluded(&tally, width, ins, outs),
             support: own.support(),
         })
     }

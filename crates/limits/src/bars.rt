@@ -73,7 +73,7 @@ fn first_off_range(pairs: &[Pair]) -> Option<u64>
     first_passing(pairs, |pair| pair.is_off_range())
 }
 
-// How many pairs at the front come each after the one at its left: all pairs where none is out of order. A count, since the lesser of two places is wanted.
+// How many pairs at the front come each after the one at its left: all pairs where none is out of order.
 fn ordered_front(pairs: &[Pair]) -> usize
     ensures within { result ≤ length pairs.now }
     ensures rising { Rising PairBefore pairs.now result }
@@ -83,13 +83,15 @@ fn ordered_front(pairs: &[Pair]) -> usize
     first_unordered(pairs).map_or(pairs.len(), |place| place - 1)
 }
 
-// The place of the first pair that has not its lower mark first, or does not come after the one at its left: not by `first_passing`, since it is the lesser of two places.
+// The place of the first pair that has not its lower mark first, or does not come after the one at its left.
+// Only the pairs that are in order are looked at for the first of these faults: a list that is out of order early is not gone over whole.
 fn first_misplaced(pairs: &[Pair]) -> Option<u64>
     ensures { result ≡ first_place (misplaced pairs.now) (range_with_len 0 (length pairs.now)) }
 {
-    let turned = pairs.iter().position(|pair| pair.is_turned());
-    let at = turned.unwrap_or(pairs.len()).min(ordered_front(pairs));
-    (at < pairs.len()).then_some(at as u64 + 1)
+    let ordered = ordered_front(pairs);
+    first_passing(&pairs[0..ordered], |pair| pair.is_turned()).or(
+        (ordered < pairs.len()).then_some(ordered as u64 + 1),
+    )
 }
 
 impl<'a> Bars<'a> {

@@ -1,6 +1,6 @@
 -- Going over the marks of a set, and gathering those that pass a test.
-use Rattle.std.proofs.Common.{◌≡◌, ℕ, ◌^◌, ◌<◌, Bool, true, false, cond, not, ◌&&◌, ◌≢◌, eqb, [], sum_by, refl, sym, ap, ◌∙◌, subst, ⊎_elim, arith}
-use Rattle.std.proofs.lemmas.Bool.{both_ways, cases_eq, eq-eqb, ne_eqb}
+use Rattle.std.proofs.Common.{◌≡◌, ℕ, ◌+◌, ◌^◌, ◌<◌, ◌≤◌, Bool, true, false, cond, not, ◌&&◌, ◌≢◌, eqb, [], sum_by, refl, sym, ap, ◌∙◌, subst, ⊎_elim, arith}
+use Rattle.std.proofs.lemmas.Bool.{both_ways, cases_eq, eq-eqb, ne_eqb, lt-ltb, ltb-true}
 use Rattle.marks.specs.Filtering.{Filtered}
 use Rattle.marks.specs.Kinds.{Mark}
 use Rattle.marks.specs.Numbers.{bit_of}
@@ -92,6 +92,74 @@ module _ (may : Mark → Bool → Type 0) (all : ℕ) where
 
   pub gathered_all : (rest set : ℕ) → rest ≡ 0 → Gathered may all rest set → Filtered may all set
   gathered_all rest set z done = record { asked = λ b h. done.asked b h (ap (λ (s : ℕ). has s b) z ∙ has_none b); part = λ b h. (done.part b h).0 }
+
+-- ---- the marks up to n, one after the other
+
+-- of the first k of them, the set has just those for which the test answered true, and it has no other mark
+pub record Asked (may : Mark → Bool → Type 0) (n k set : ℕ) : Type 0 where
+  pub asked : (b : ℕ) → b < k → (mark : Mark) × (bit_of mark.number ≡ b) × may mark (has set b)
+  pub part : (b : ℕ) → has set b ≡ true → (b < k) × (b < n)
+
+module _ (may : Mark → Bool → Type 0) (n : ℕ) where
+  pub asked_start : (set : ℕ) → set ≡ 0 → Asked may n 0 set
+  asked_start set z = record {
+    asked = λ b h. absurd (omega arith);
+    part = λ b h. absurd (both_ways (has set b) (ap (λ (s : ℕ). has s b) z ∙ has_none b) h);
+  }
+
+  pub asked_more : (k set set' : ℕ) (mark : Mark) (answer : Bool) → k < n → mark.number ≡ k + 1 → Asked may n k set → may mark answer
+      → set' ≡ cond answer (with_bit set (bit_of mark.number)) set → Asked may n (k + 1) set'
+  asked_more k set set' mark answer inside comes before said e = record { asked = asked; part = part }
+    where
+      own : bit_of mark.number ≡ k
+      own = omega arith
+
+      made : set' ≡ cond answer (with_bit set k) set
+      made = e ∙ ap (λ (b : ℕ). cond answer (with_bit set b) set) own
+
+      fresh : (t : Bool) → has set k ≡ t → t ≡ false
+      fresh true h = let low : k < k = (before.part k h).0 in absurd (omega arith)
+      fresh false h = refl
+
+      here : has set' k ≡ answer
+      here = ap (λ (s : ℕ). has s k) made ∙ by answer
+        where
+          by : (t : Bool) → has (cond t (with_bit set k) set) k ≡ t
+          by true = has_with set k k ∙ rw (eq-eqb k k refl) (grind arith)
+          by false = fresh (has set k) refl
+
+      there : (j : ℕ) → k ≢ j → has set' j ≡ has set j
+      there j d = ap (λ (s : ℕ). has s j) made ∙ by answer
+        where
+          by : (t : Bool) → has (cond t (with_bit set k) set) j ≡ has set j
+          by true = has_with set k j ∙ rw (ne_eqb k j d) (grind arith)
+          by false = refl
+
+      asked : (j : ℕ) → j < k + 1 → (mark : Mark) × (bit_of mark.number ≡ j) × may mark (has set' j)
+      asked j h = ⊎_elim same other (cases_eq k j)
+        where
+          same : k ≡ j → (mark : Mark) × (bit_of mark.number ≡ j) × may mark (has set' j)
+          same d = (mark, own ∙ d, subst (λ (i : ℕ). may mark (has set' i)) d (subst (may mark) (sym here) said))
+
+          other : k ≢ j → (mark : Mark) × (bit_of mark.number ≡ j) × may mark (has set' j)
+          other d =
+              let was = before.asked j (omega arith) in
+              (was.0, was.1, subst (may was.0) (sym (there j d)) was.2)
+
+      part : (j : ℕ) → has set' j ≡ true → (j < k + 1) × (j < n)
+      part j h = ⊎_elim same other (cases_eq k j)
+        where
+          same : k ≡ j → (j < k + 1) × (j < n)
+          same d = (omega arith, omega arith)
+
+          other : k ≢ j → (j < k + 1) × (j < n)
+          other d = let was = before.part j (sym (there j d) ∙ h) in (omega (arith, was.0), was.1)
+
+  pub asked_all : (k set : ℕ) → n ≤ k → Asked may n k set → Filtered may (all_below n) set
+  asked_all k set whole done = record {
+    asked = λ b h. done.asked b (let low : b < n = ltb-true b n (sym (has_all_below n b) ∙ h) in omega arith);
+    part = λ b h. has_all_below n b ∙ lt-ltb b n (done.part b h).1;
+  }
 
 -- a test whose answers are determined leaves the marks that pass
 module _ (may : Mark → Bool → Type 0) (test : ℕ → Bool) (all kept : ℕ) (sure : (mark : Mark) (answer : Bool) → has all (bit_of mark.number) ≡ true → may mark answer → answer ≡ test (bit_of mark.number)) where

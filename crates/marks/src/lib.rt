@@ -12,7 +12,7 @@ pub use numbers::charge::Charge;
 pub use numbers::mark::Mark;
 pub use numbers::support::Support;
 pub use numbers::width::Width;
-pub use numbers::{MARKS, MOST_CHARGES, MOST_MARKS, Number};
+pub use numbers::{Kind, MARKS, MOST_CHARGES, MOST_MARKS, Number};
 pub use orders::{StrictOrder, first_unordered};
 pub use refusal::{Reason, Refusal};
 pub use sets::MarkSet;

@@ -5,6 +5,7 @@ ghost use Rattle.marks.specs.Refusals.{Answers, range_refusal};
 
 use crate::refusal::{Reason, Refusal};
 use std::alloc::AllocError;
+use std::fmt;
 use std::marker::PhantomData;
 
 pub mod charge;
@@ -21,8 +22,14 @@ pub const MARKS: usize = MOST_MARKS as usize;
 /// Charges, and so supports, are 1 to this.
 pub const MOST_CHARGES: u32 = 65_536;
 
+/// A kind of numbers.
+pub trait Kind {
+    /// What a number of the kind is called where it is shown by `{:?}`.
+    const NAME: &'static str;
+}
+
 /// A number of a kind, 1 to `MOST`. The kind keeps numbers apart that count different things.
-#[derive_where(PartialEq, Eq, Debug)]
+#[derive_where(PartialEq, Eq)]
 pub struct Number<K, const MOST: u32> {
     number: u32,
     kind: PhantomData<K>,
@@ -41,6 +48,15 @@ impl<K, const MOST: u32> Clone for Number<K, MOST> {
 }
 
 impl<K, const MOST: u32> Copy for Number<K, MOST> {}
+
+// By hand, since a derived one names the type that all kinds share, and not the kind.
+impl<K: Kind, const MOST: u32> fmt::Debug for Number<K, MOST> {
+    fn fmt<W: fmt::Write>(&self, f: &mut fmt::Formatter<W>) -> fmt::Result {
+        f.debug_struct(K::NAME)
+            .field("number", &self.number)
+            .finish()
+    }
+}
 
 // `new` and `get`, as the library's `NonZeroU32` has them.
 impl<K, const MOST: u32> Number<K, MOST> {

@@ -190,6 +190,19 @@ impl MarkSet {
         }
         kept
     }
+
+    // Not by `filter` of all marks up to the width: going over them by their numbers takes less time.
+    /// The marks up to a width for which the test answers true.
+    pub fn passing<F: Fn(Mark) -> bool>(width: Width, test: F) -> MarkSet
+        requires { (mark : _) → has (up_to width) (bit_of mark.number) ≡ true → F.pre test mark }
+        ensures { Filtered (F.post test) (up_to width) result.bits }
+    {
+        let mut passed = MarkSet::empty();
+        for mark in Mark::up_to(width) {
+            passed = passed.with_if(mark, test(mark));
+        }
+        passed
+    }
 }
 
 /// Goes over the marks of a set, from the lowest on.

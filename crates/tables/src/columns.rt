@@ -64,9 +64,7 @@ impl<'a> Columns<'a> {
     fn first_stray(&self) -> Option<Mark>
         ensures { option_map (λ mark. mark.number) result ≡ first_place (λ b. not (past_count self.now.words.now self.now.count b == no_marks)) (range_with_len 0 self.now.width.number) }
     {
-        MarkSet::up_to(self.width)
-            .marks()
-            .find(|mark| self.spills(*mark))
+        Mark::up_to(self.width).find(|mark| self.spills(*mark))
     }
 
     // Whether a mark has a bit past the count.
@@ -108,7 +106,7 @@ impl Table for Columns<'_> {
         if charge.get() > self.count {
             return MarkSet::empty();
         }
-        MarkSet::up_to(self.width).filter(|mark| self.holds(mark, charge))
+        MarkSet::passing(self.width, |mark| self.holds(mark, charge))
     }
 
     ghost proper = { λ t. columns_proper t.words.now t.width.number t.count };

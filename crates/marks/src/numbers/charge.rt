@@ -4,10 +4,14 @@ ghost use Rattle.std.specs.Iterator.{YieldsFirstBy, item_count};
 ghost use Rattle.std.specs.List.{range_with_len};
 ghost use Rattle.marks.specs.Numbers.{most_charges};
 
-use crate::numbers::{MOST_CHARGES, Number};
+use crate::numbers::{Kind, MOST_CHARGES, Number};
 
 /// The kind of charges.
 pub enum ChargeKind {}
+
+impl Kind for ChargeKind {
+    const NAME: &'static str = "Charge";
+}
 
 /// A charge: one feeding of the furnace, by its number in the log.
 pub type Charge = Number<ChargeKind, MOST_CHARGES>;

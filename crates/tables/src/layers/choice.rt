@@ -88,6 +88,6 @@ impl Choice {
     pub(crate) fn of(self, row: MarkSet) -> MarkSet
         ensures { result.bits ≡ chosen_from (chosen self.marks self.width.number) row.bits }
     {
-        MarkSet::up_to(self.width).filter(|mark| row.holds(self.marks[mark.place()]))
+        MarkSet::passing(self.width, |mark| row.holds(self.marks[mark.place()]))
     }
 }

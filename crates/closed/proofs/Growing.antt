@@ -8,14 +8,14 @@ use Rattle.marks.specs.Orders.{Before}
 use Rattle.marks.specs.Sets.{has, no_marks, with_bit, size_of}
 use Rattle.marks.specs.Sizes.{ones_with, ones_zero}
 use Rattle.closed.specs.Families.{Fits, list_of, dead, fitting, in_every, in_none, turn_count, turns}
-use Rattle.closed.specs.Walks.{Tight, Reached}
-use Rattle.closed.specs.Trees.{Tree, dead_end, leaf, fork, leaves, Alive, grow, node_tree, TreeLaw}
+use Rattle.closed.specs.Walks.{Tight, Reached, At}
+use Rattle.closed.specs.Trees.{Tree, dead_end, leaf, fork, leaves, nodes, upto_leaf, Alive, grow, node_tree, TreeLaw}
 use Rattle.closed.proofs.Ordered.{pairs_append, has_here, list_ordered, list_has, list_only, same_listed}
 use Rattle.closed.proofs.Fitting.{fits_listed, fits_below, fits_root, fits_with, fits_with_back, fits_with_has}
 use Rattle.closed.proofs.Fitting.{fits_without, fits_without_back, fits_without_lacks, fits_alive, dead_none, alive_some, narrowed_defined}
 use Rattle.closed.proofs.Walking.{fits_alike, done_only, done_fits, reached_root, reached_narrowed, reached_in, reached_out, reached_skip, reached_turns, turns_one}
-use Rattle.closed.proofs.Stepping.{at_none}
-use Rattle.closed.proofs.Turning.{turns_are}
+use Rattle.closed.proofs.Stepping.{at_last, at_none}
+use Rattle.closed.proofs.Turning.{turns_are, at_turns}
 use Rattle.closed.proofs.Counting.{lefts, upto_lefts, length_nodes}
 use Rattle.closed.proofs.WalkSteps.{Narrowed, Free, Done}
 
@@ -189,3 +189,16 @@ module _ (p : ℕ → Bool) (n : ℕ) where
   pub tree_law : TreeLaw p n
   tree_law =
       ⊎_elim law_dead (λ e. let x = alive_some p n no_marks no_marks e in law_alive x.0 x.1) (cases_Bool (dead p n no_marks no_marks))
+
+  -- what was opened on the way to a set are the nodes up to its leaf
+  pub opened_nodes : (k x t c : ℕ) → At p n k x t c → c ≡ upto_leaf (nodes (node_tree p n)) (k - 1)
+  opened_nodes k x t c a =
+      let s : turn_count p n (get_or (list_of p n) (k - 1) 0) ≡ size_of t =
+      ap (turn_count p n) a.entry ∙ ap size_of (sym (at_turns p n k x t c a)) in
+      omega (arith, tree_law.counted k a.counted a.within, a.opened)
+
+  -- at the last set every node was opened
+  pub opened_all : (k x c : ℕ) → At p n k x 0 c → c ≡ length (nodes (node_tree p n))
+  opened_all k x c a =
+      let l : k ≡ length (list_of p n) = at_last p n k x c a in
+      omega (arith, tree_law.all (omega (arith, a.counted)), ones_zero, a.opened)

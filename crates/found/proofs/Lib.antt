@@ -1,3 +1,4 @@
 pub mod Laying
 pub mod Marked
 pub mod ReadBack
+pub mod Writing

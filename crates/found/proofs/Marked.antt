@@ -1,12 +1,12 @@
--- The text of a set's marks, mark by mark.
-use Rattle.std.proofs.Common.{◌≡◌, ℕ, zero, suc, ◌+◌, ◌-◌, ◌*◌, ◌<◌, ◌≤◌, Bool, true, false, cond, List, [], ◌∷◌, ◌++◌, length, codes, decimal, flat_map, sym, refl, ap, ◌∙◌, append-nil, append_assoc, arith}
+-- The text of a set's marks, mark by mark, and how long a line is at most.
+use Rattle.std.proofs.Common.{◌≡◌, ℕ, zero, suc, ◌+◌, ◌-◌, ◌*◌, ◌^◌, ◌<◌, ◌≤◌, Bool, true, false, cond, List, [], ◌∷◌, ◌++◌, length, codes, decimal, flat_map, sym, refl, ap, ◌∙◌, append-nil, append_assoc, arith}
 use Rattle.std.proofs.lemmas.List.Concat.{flat_map-append}
 use Rattle.std.proofs.lemmas.List.{length-append}
 use Rattle.std.proofs.lemmas.Fmt.{length-decimal-le}
 use Rattle.marks.specs.Numbers.{most_marks, bit_of}
 use Rattle.marks.specs.Sets.{has, bits_below}
 use Rattle.marks.proofs.Enumerated.{bits_start, bits_more}
-use Rattle.found.specs.Lines.{mark_text, marks_text}
+use Rattle.found.specs.Lines.{mark_text, marks_text, line_text, fault_text, end_text}
 
 -- a mark and a blank
 abbrev pub word : ℕ → List ℕ
@@ -54,3 +54,18 @@ next_mark {set = set} {rest = rest} {n = n} {written = written} some p e =
     partly set rest ((written ++ decimal n) ++ codes " ")
     (ap (λ m. ((written ++ decimal m) ++ codes " ") ++ flat_map word (bits_below most_marks rest)) (sym back) ∙ (simp append_assoc)
     ∙ ap (λ bits. written ++ flat_map word bits) (sym e) ∙ p.whole)
+
+-- a number of 64 bits has at most twenty digits
+digits_short : (n : ℕ) → n < 2 ^ 64 → length (decimal n) ≤ 20
+digits_short n h = length-decimal-le 20 n (omega arith) (omega arith) h
+
+-- no line is longer than 109 bytes
+pub line_short : (set support : ℕ) → support < 2 ^ 32 → length (line_text set support) ≤ 109
+line_short set support h =
+    simp length-append (omega (arith, marks_short set most_marks (omega arith), length-decimal-le 10 support (omega arith) (omega arith) (omega arith)))
+
+pub end_short : (sets opened : ℕ) → sets < 2 ^ 64 → opened < 2 ^ 64 → length (end_text sets opened) ≤ 109
+end_short sets opened h l = simp length-append (omega (arith, digits_short sets h, digits_short opened l))
+
+pub fault_short : (number line column : ℕ) → number < 2 ^ 64 → line < 2 ^ 64 → column < 2 ^ 64 → length (fault_text number line column) ≤ 109
+fault_short number line column n l c = simp length-append (omega (arith, digits_short number n, digits_short line l, digits_short column c))

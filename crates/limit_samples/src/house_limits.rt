@@ -94,6 +94,7 @@ fn bad_pair(place: u64) -> Option<Refusal> {
 #[test]
 fn pairs_in_order(rt: HostRuntime) {
     let refusals = [
+        Bars::new(&[]).err(),
         refusal([(1, 2), (1, 3), (2, 3)]),
         refusal([(1, 2), (1, 2), (2, 3)]),
         refusal([(1, 2), (1, 3), (1, 3)]),
@@ -103,6 +104,7 @@ fn pairs_in_order(rt: HostRuntime) {
         refusal([(1, 2), (1, 3), (32, 31)]),
     ];
     let due = [
+        None,
         None,
         bad_pair(2),
         bad_pair(3),
@@ -126,6 +128,11 @@ fn entries_in_range(rt: HostRuntime) {
     ] {
         let due = Some(Refusal::at(Reason::Range, place));
         assert_eq!(rt; refusal(pairs), due, "{pairs:?}");
+    }
+    for second in [(3, 33), (0, 0)] {
+        let pairs = [pair((2, 1)), pair(second)];
+        let due = Some(Refusal::at(Reason::Range, 2));
+        assert_eq!(rt; Bars::new(&pairs).err(), due, "{second:?}");
     }
 }
 

@@ -20,7 +20,7 @@ small_parts most x y l part h = le-leb (size_of x) most (omega (arith, leb-true 
 
 module _ (weight : ℕ → ℕ) where
   -- a part weighs no more
-  weight_part : (n x y : ℕ) → PartOf x y → weight_below weight n x ≤ weight_below weight n y
+  pub weight_part : (n x y : ℕ) → PartOf x y → weight_below weight n x ≤ weight_below weight n y
   unfolding weight_below
   weight_part zero x y part = omega arith
   weight_part (suc n) x y part = by (has x n) (has y n) refl refl (weight_part n x y part)

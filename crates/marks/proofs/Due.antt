@@ -1,5 +1,5 @@
 -- Refusals that are due.
-use Rattle.std.proofs.Common.{◌≡◌, ℕ, not, leb, IsOk, Some, None, Ok, Err, Option, Result, refl, ap, arith}
+use Rattle.std.proofs.Common.{◌≡◌, ℕ, Bool, true, false, not, leb, is_err, IsOk, Some, None, Ok, Err, Option, Result, sym, refl, ap, arith}
 use Rattle.std.proofs.lemmas.Bool.{le-leb, and_from}
 use Rattle.marks.specs.declared.refusal.Reason.TheVariants.{Range}
 use Rattle.marks.specs.declared.refusal.Refusal.{Refusal}
@@ -17,6 +17,13 @@ range_accepted most n h =
 
 pub range_due : (most n : ℕ) (refusal : Refusal) → range_refusal most n ≡ Some refusal → InRange most n → ⊥
 range_due most n refusal some h = none_due (range_refusal most n) refusal (range_accepted most n h) some
+
+-- a call that refuses by one test refuses exactly where it holds
+pub refused_if : {A : Type 0} (test : Bool) (refusal : Refusal) (P : A → Type 0) (r : Result A Refusal) → Answers (due_if test refusal) P r → is_err r ≡ test
+refused_if true refusal P (Ok x) h = absurd (none_due None refusal refl (sym h.0))
+refused_if true refusal P (Err e) h = refl
+refused_if false refusal P (Ok x) h = refl
+refused_if false refusal P (Err e) h = absurd (none_due None e refl h)
 
 -- a call that refuses nothing answers a value
 pub not_due : {A : Type 0} (due : Option Refusal) (P : A → Type 0) (r : Result A Refusal) → due ≡ None → Answers due P r → IsOk r

@@ -1,5 +1,5 @@
 -- The marks that pass a test, as a set.
-use Rattle.std.proofs.Common.{◌≡◌, ℕ, zero, suc, ◌^◌, ◌<◌, Bool, true, false, cond, ◌&&◌, ◌||◌, eqb, ltb, refl, ◌∙◌, subst, ⊎_elim, arith}
+use Rattle.std.proofs.Common.{◌≡◌, ℕ, zero, suc, ◌+◌, ◌^◌, ◌<◌, Bool, true, false, cond, ◌&&◌, ◌||◌, eqb, ltb, refl, ap, ◌∙◌, subst, ⊎_elim, add-one, arith}
 use Rattle.std.proofs.lemmas.Bool.{lt-ltb, le-ltb, eq-eqb, ne_eqb, cases_eq, cases_lt}
 use Rattle.std.proofs.lemmas.Bool.Decides.{nat_tests}
 use Rattle.marks.specs.Sets.{has, with_bit, picked}
@@ -11,6 +11,10 @@ module _ (test : ℕ → Bool) where
   pub picked_start : picked test 0 ≡ 0
   unfolding picked
   picked_start = refl
+
+  pub picked_more : (n : ℕ) → picked test (n + 1) ≡ cond (test n) (with_bit (picked test n) n) (picked test n)
+  unfolding picked
+  picked_more n = ap (picked test) (add-one n)
 
   pub has_picked : (n b : ℕ) → has (picked test n) b ≡ (ltb b n && test b)
   unfolding picked

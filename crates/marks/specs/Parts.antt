@@ -1,8 +1,8 @@
 -- One set a part of another.
-use Rattle.std.specs.Prelude.{◌≡◌, ℕ, zero, suc, ◌+◌, ◌^◌, ◌<◌, ◌≤◌, true, false, not, ◌&&◌, ◌||◌, Decides, ◌==◌, bit_and, bit_or}
+use Rattle.std.specs.Prelude.{◌≡◌, ℕ, zero, suc, ◌+◌, ◌^◌, ◌<◌, ◌≤◌, true, false, not, ◌&&◌, ◌||◌, Decides, ◌==◌, bit_and, bit_or, refl}
 use Rattle.std.proofs.Common.{sym, ap, ◌∙◌, subst, ⊎_elim, arith, mod-eq_of_lt, pow_pos}
 use Rattle.std.specs.Int.Bits.{and_self}
-use Rattle.std.proofs.lemmas.Bool.{eqb-true, eq-eqb, cases_eq}
+use Rattle.std.proofs.lemmas.Bool.{eqb-true, eq-eqb, and_from, cases_eq}
 use Rattle.std.proofs.lemmas.Bool.Decides.{nat_tests}
 use Rattle.std.proofs.lemmas.Nat.{pow_below, and_comm, and_le_l, and_le_r, and_mask, or_disjoint}
 use Rattle.marks.specs.Sets.{has, PartOf, part_of, all_below, with_bit, without_bit, minus}
@@ -18,6 +18,9 @@ part_test x r e = eq-eqb (bit_and x r) x e
 -- what is in x is in r
 pub part_has : (x r b : ℕ) → PartOf x r → has x b ≡ true → has r b ≡ true
 part_has x r b w h = let e : has (bit_and x r) b ≡ has x b = ap (λ s. has s b) w in grind (arith, has_and)
+
+pub part_lacks : (x r b : ℕ) → PartOf x r → has r b ≡ false → has x b ≡ false
+part_lacks x r b w h = let e : has (bit_and x r) b ≡ has x b = ap (λ s. has s b) w in grind (arith, has_and)
 
 pub part_from_has_below : (n x r : ℕ) → x < 2 ^ n → ((b : ℕ) → b < n → has x b ≡ true → has r b ≡ true) → PartOf x r
 part_from_has_below n x r p f =
@@ -50,9 +53,25 @@ part_antisym x y p q = sym p ∙ and_comm x y ∙ q
 pub part_le : (x y : ℕ) → PartOf x y → x ≤ y
 part_le x y p = omega (arith, and_le_r x y)
 
--- the first of two sets is a part of both together, which are a part of what each is a part of
+pub part_none : (x : ℕ) → PartOf 0 x
+part_none x = refl
+
+-- the greatest set that is a part of both
+pub and_part_left : (x y : ℕ) → PartOf (bit_and x y) x
+and_part_left x y = part_from_has (bit_and x y) x (λ b e. grind (arith, has_and))
+
+pub and_part_right : (x y : ℕ) → PartOf (bit_and x y) y
+and_part_right x y = part_from_has (bit_and x y) y (λ b e. grind (arith, has_and))
+
+pub part_and : (z x y : ℕ) → PartOf z x → PartOf z y → PartOf z (bit_and x y)
+part_and z x y p q = part_from_has z (bit_and x y) (λ b e. has_and x y b ∙ and_from (has x b) (has y b) (part_has z x b p e) (part_has z y b q e))
+
+-- the least set that both are parts of
 pub part_or_left : (x y : ℕ) → PartOf x (bit_or x y)
 part_or_left x y = part_from_has x (bit_or x y) (λ b e. grind (arith, has_or))
+
+pub part_or_right : (x y : ℕ) → PartOf y (bit_or x y)
+part_or_right x y = part_from_has y (bit_or x y) (λ b e. grind (arith, has_or))
 
 pub or_part : (x y z : ℕ) → PartOf x z → PartOf y z → PartOf (bit_or x y) z
 or_part x y z p q =
@@ -68,6 +87,12 @@ below_from_part n x w = omega (arith, part_le x (all_below n) w, pow_pos n)
 -- one member more
 pub has_with : (s b j : ℕ) → has (with_bit s b) j ≡ (has s j || b == j)
 has_with s b j = has_or s (2 ^ b) j ∙ ap (λ t. has s j || t) (has_only b j)
+
+pub with_there : (s b : ℕ) → has s b ≡ true → with_bit s b ≡ s
+with_there s b h = same_members (with_bit s b) s (λ j. has_with s b j ∙ at j)
+  where
+    at : (j : ℕ) → (has s j || b == j) ≡ has s j
+    at j = ⊎_elim (λ e. let k : has s j ≡ true = subst (λ i. has s i ≡ true) e h in grind (arith, nat_tests)) (λ e. grind (arith, nat_tests)) (cases_eq b j)
 
 -- a member not there is added as a sum
 pub with_adds : (s b : ℕ) → has s b ≡ false → with_bit s b ≡ s + 2 ^ b
@@ -89,9 +114,20 @@ with_part x r b w h = or_part x (2 ^ b) r w (only_part r b h)
 pub part_decides : (x r : ℕ) → Decides (part_of x r) ((b : ℕ) → has x b ≡ true → has r b ≡ true)
 part_decides x r = (λ t b. part_has x r b (part_fact x r t), λ f. part_test x r (part_from_has x r f))
 
+-- a set with no mark is 0
+pub empty_decides : (s : ℕ) → Decides (s == 0) ((b : ℕ) → has s b ≡ false)
+empty_decides s = (
+  λ t b. ap (λ x. has x b) (eqb-true s 0 t) ∙ has_none b,
+  λ f. eq-eqb s 0 (same_members s 0 (λ b. f b ∙ sym (has_none b))),
+)
+
 -- difference
 pub has_minus : (s t b : ℕ) → s < 2 ^ 32 → t < 2 ^ 32 → has (minus s t) b ≡ (has s b && not (has t b))
 has_minus s t b p q = rw (has_and, has_rest 32 t b q) (grind (arith, has_below 32 s b p, nat_tests))
 
 pub has_without : (s b j : ℕ) → s < 2 ^ 32 → b < 32 → has (without_bit s b) j ≡ (has s j && not (b == j))
 has_without s b j p h = has_minus s (2 ^ b) j p (pow_below b 32 h) ∙ ap (λ t. has s j && not t) (has_only b j)
+
+-- two sets with no member in common
+pub sum_part : (x y r : ℕ) → bit_and x y ≡ 0 → PartOf x r → PartOf y r → PartOf (x + y) r
+sum_part x y r d p q = rw (or_disjoint x y d) at (or_part x y r p q)

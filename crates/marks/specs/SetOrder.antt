@@ -1,5 +1,5 @@
 -- The list order of sets.
-use Rattle.std.specs.Prelude.{◌≡◌, ℕ, zero, suc, ◌/◌, ◌%◌, ◌<◌, true, false, ◌⊎◌, Decides, bit_xor, nat_eq, refl}
+use Rattle.std.specs.Prelude.{◌≡◌, ℕ, zero, suc, ◌/◌, ◌%◌, ◌^◌, ◌<◌, true, false, ◌⊎◌, Decides, bit_xor, nat_eq, refl}
 use Rattle.std.proofs.Common.{sym, ap, ◌∙◌, subst, inl, inr, arith}
 use Rattle.std.proofs.lemmas.Bool.{eq-eqb, ne_eqb, both_ways, cases_order}
 use Rattle.marks.specs.Sets.{has}
@@ -35,6 +35,20 @@ before_half x y e p =
 pub before_odd : (x y : ℕ) → x % 2 ≡ 1 → y % 2 ≡ 0 → Before x y
 before_odd x y e f =
     record { at = 0; held = has_zero x ∙ eq-eqb (x % 2) 1 e; lacks = has_zero y ∙ ne_eqb (y % 2) 1 (omega arith); same = λ j h. absurd (omega arith) }
+
+-- one of the two comes first, unless they are the same
+pub before_total : (n x y : ℕ) → x < 2 ^ n → y < 2 ^ n → (x ≡ y) ⊎ (Before x y ⊎ Before y x)
+before_total zero x y p q = inl (omega arith)
+before_total (suc n) x y p q =
+    by (cases_order (x % 2) (y % 2)) (before_total n (x / 2) (y / 2) (omega arith) (omega arith))
+  where
+    by : (x % 2 ≡ y % 2) ⊎ ((x % 2 < y % 2) ⊎ (y % 2 < x % 2)) → (x / 2 ≡ y / 2) ⊎ (Before (x / 2) (y / 2) ⊎ Before (y / 2) (x / 2))
+        → (x ≡ y) ⊎ (Before x y ⊎ Before y x)
+    by (inl e) (inl f) = inl (omega arith)
+    by (inl e) (inr (inl b)) = inr (inl (before_half x y e b))
+    by (inl e) (inr (inr b)) = inr (inr (before_half y x (sym e) b))
+    by (inr (inl l)) r = inr (inr (before_odd y x (omega arith) (omega arith)))
+    by (inr (inr l)) r = inr (inl (before_odd x y (omega arith) (omega arith)))
 
 -- ---- as the code finds it, by the lowest mark on which they differ
 

@@ -1,11 +1,11 @@
 -- How many members a set has, and its lowest and its highest member.
 use Rattle.std.specs.Prelude.{◌≡◌, ℕ, zero, suc, ◌+◌, ◌-◌, ◌*◌, ◌/◌, ◌%◌, ◌^◌, ◌<◌, ◌≤◌, min, max, true, false, not, ◌&&◌, ◌==◌, bit_and, bit_or, nat_eq, refl}
-use Rattle.std.proofs.Common.{sym, ap, ◌∙◌, arith, mod-lt, zero-lt-suc}
+use Rattle.std.proofs.Common.{sym, ap, ◌∙◌, arith, mod-lt, zero-lt-suc, pow_pos}
 use Rattle.std.proofs.Math.Arith.{bin_ind}
-use Rattle.std.specs.Int.Bits.{and_step, or_step, or_add_and}
+use Rattle.std.specs.Int.Bits.{and_self, and_step, or_step, or_add_and}
 use Rattle.std.specs.Int.Count.{ones, ones_step, count_trailing_zeros, count_leading_zeros, under}
 use Rattle.std.proofs.lemmas.Nat.{leading_top}
-use Rattle.std.proofs.lemmas.Bool.{eqb-true, eq-eqb, ne_eqb}
+use Rattle.std.proofs.lemmas.Bool.{eqb-true, eqb-false, eq-eqb, ne_eqb}
 use Rattle.std.proofs.lemmas.Bool.Decides.{nat_tests}
 use Rattle.marks.specs.Sets.{has, PartOf, with_bit, without_bit, Lowest, Highest}
 use Rattle.marks.specs.Members.{has_zero, has_suc, has_past, has_below}
@@ -104,6 +104,27 @@ trailing_below k x p h = has_below k x (count_trailing_zeros k x) h (trailing_lo
 pub one_lowest : (x s t : ℕ) → Lowest x s → Lowest x t → s ≡ t
 one_lowest x s t p q = grind (arith, p.held, q.held, p.none_below t, q.none_below s)
 
+-- `x & (x - 1)` leaves the lowest member out
+pub clear_lowest : (x t : ℕ) → Lowest x t → bit_and x (x - 1) + 2 ^ t ≡ x
+clear_lowest x zero p =
+    let o : x % 2 ≡ 1 = eqb-true (x % 2) 1 (sym (has_zero x) ∙ p.held) in
+    let e : (x - 1) / 2 ≡ x / 2 = omega arith in
+    let a : bit_and x (x - 1) ≡ bit_and (x / 2) ((x - 1) / 2) * 2 + min (x % 2) ((x - 1) % 2) = and_step x (x - 1) in
+    let b : bit_and (x / 2) ((x - 1) / 2) ≡ x / 2 = ap (bit_and (x / 2)) e ∙ and_self (x / 2) in
+    omega arith
+clear_lowest x (suc t) p =
+    let z : x % 2 ≡ 0 = even in
+    let ih : bit_and (x / 2) (x / 2 - 1) + 2 ^ t ≡ x / 2 =
+    clear_lowest (x / 2) t (record { held = sym (has_suc x t) ∙ p.held; none_below = λ j h. sym (has_suc x j) ∙ p.none_below (suc j) (omega arith) }) in
+    let pos : 0 < x / 2 = omega (arith, pow_pos t) in
+    let e : (x - 1) / 2 ≡ x / 2 - 1 = omega arith in
+    let a : bit_and x (x - 1) ≡ bit_and (x / 2) ((x - 1) / 2) * 2 + min (x % 2) ((x - 1) % 2) = and_step x (x - 1) in
+    let b : bit_and (x / 2) ((x - 1) / 2) ≡ bit_and (x / 2) (x / 2 - 1) = ap (bit_and (x / 2)) e in
+    omega arith
+  where
+    even : x % 2 ≡ 0
+    even = let n : x % 2 ≡ 1 → ⊥ = eqb-false (x % 2) 1 (sym (has_zero x) ∙ p.none_below 0 (omega arith)) in omega arith
+
 -- a member less
 pub has_le : (x b : ℕ) → has x b ≡ true → 2 ^ b ≤ x
 has_le x b h = part_le (2 ^ b) x (only_part x b h)
@@ -132,6 +153,16 @@ ones_less x b h =
     let back : with_bit (x - 2 ^ b) b ≡ x = omega (arith, with_adds (x - 2 ^ b) b gone, has_le x b h) in
     sym (ones_with (x - 2 ^ b) b gone) ∙ ap ones back
 
+-- so what is left has every other member
+pub cleared : (x t : ℕ) → Lowest x t → bit_and x (x - 1) ≡ x - 2 ^ t
+cleared x t p = omega (arith, clear_lowest x t p)
+
+pub has_cleared : (x t j : ℕ) → Lowest x t → has (bit_and x (x - 1)) j ≡ (has x j && not (t == j))
+has_cleared x t j p = rw (cleared x t p) (has_less x t j p.held)
+
+pub ones_cleared : (x t : ℕ) → Lowest x t → ones (bit_and x (x - 1)) + 1 ≡ ones x
+ones_cleared x t p = rw (cleared x t p) (ones_less x t p.held)
+
 -- ---- the highest member, by `leading_zeros`
 pub highest : (x j : ℕ) → 2 ^ j ≤ x → x < 2 ^ suc j → Highest x j
 highest x zero l h =
@@ -153,3 +184,6 @@ one_highest x s t p q = grind (arith, p.held, q.held, p.none_above t, q.none_abo
 -- a mark taken out is its bit less
 pub without_is : (s b : ℕ) → s < 2 ^ 32 → has s b ≡ true → without_bit s b ≡ s - 2 ^ b
 without_is s b l h = same_members (without_bit s b) (s - 2 ^ b) (λ j. has_without s b j l (has_below 32 s b l h) ∙ sym (has_less s b j h))
+
+pub without_less : (s b : ℕ) → s < 2 ^ 32 → has s b ≡ true → without_bit s b < s
+without_less s b l h = omega (arith, without_is s b l h, has_le s b h, pow_pos b)

@@ -86,3 +86,34 @@ fn room_for_a_line(rt: HostRuntime) {
         ([no_place, no_place, Ok(10)], [b'*'; 9], *b"1 2 4 (2)\n")
     );
 }
+
+// Memory that is one byte too short, and memory of the line's size.
+#[test]
+fn room_for_a_line_of_a_refusal(rt: HostRuntime) {
+    let refusal = Refusal::at_line(Reason::BadRise, 1, 3);
+    let (mut short, mut exact) = ([b'*'; 23], [b'*'; 24]);
+    let answers = [
+        fault_line(refusal, &mut short),
+        fault_line(refusal, &mut exact),
+    ];
+    let no_place = Err(Refusal::unplaced(Reason::NoPlace));
+    assert_eq!(rt;
+        (answers, short, exact),
+        (
+            [no_place, Ok(24)],
+            [b'*'; 23],
+            *b"fault 5 line 1 column 3\n"
+        )
+    );
+}
+
+#[test]
+fn room_for_a_last_line(rt: HostRuntime) {
+    let (mut short, mut exact) = ([b'*'; 15], [b'*'; 16]);
+    let answers = [end_line(5, 9, &mut short), end_line(5, 9, &mut exact)];
+    let no_place = Err(Refusal::unplaced(Reason::NoPlace));
+    assert_eq!(rt;
+        (answers, short, exact),
+        ([no_place, Ok(16)], [b'*'; 15], *b"sets 5 opened 9\n")
+    );
+}

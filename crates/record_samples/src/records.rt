@@ -125,7 +125,7 @@ fn unordered_records_are_written(rt: HostRuntime) {
     let supports = memory.map(|record| record.support);
     let unordered = Err(Refusal::at(Reason::OutOfOrder, 2));
     assert_eq!(rt;
-        (count, supports),
-        (unordered, [0x0101_0101, 0x0101_0101, 0])
+        (count, supports, memory[2]),
+        (unordered, [0x0101_0101, 0x0101_0101, 0], of(9))
     );
 }

@@ -38,6 +38,14 @@ fn at_most_65536_charges(rt: HostRuntime) -> Result<(), Fail> {
     ];
     let too_many = Some(Refusal::unplaced(Reason::TooMany));
     assert_eq!(rt; refusals, [None, too_many, too_many]);
+    let zeros = vec![in rt.alloc(); 0; 3072]?;
+    let mut first = vec![in rt.alloc(); u64::MAX; 1]?;
+    first.resize(3072, 0)?;
+    let refusals = [
+        refusal(first.as_slice(), 65_536),
+        refusal(zeros.as_slice(), 65_537),
+    ];
+    assert_eq!(rt; refusals, [None, too_many]);
     Ok(())
 }
 

@@ -107,6 +107,18 @@ fn choices(rt: HostRuntime) -> Result<(), Fail> {
     Ok(())
 }
 
+// The numbers 1 to 32 with 0 in the place of 4, and 1 to 40 with 1 there: of several out of range, the leftmost is refused.
+#[test]
+fn longer_choices(rt: HostRuntime) -> Result<(), Fail> {
+    for (fourth, last, place) in [(0, 32, 4), (1, 40, 33)] {
+        let numbers = (1..=3).chain([fourth]).chain(5..=last);
+        let choice: Vec<u64> = numbers.collect(rt.alloc())?;
+        let due = Some(Refusal::at(Reason::Range, place));
+        assert_eq!(rt; Choice::new(choice.as_slice()).err(), due, "{last}");
+    }
+    Ok(())
+}
+
 // The first five rows of a selection over reversed marks over a window over a table.
 fn piled<T: Table + Copy>(heap: Global, table: T) -> Result<Vec<u32>, Fail> {
     let pile = Pile {

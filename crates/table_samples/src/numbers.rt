@@ -1,5 +1,6 @@
 // Numbers at the edges of their ranges.
 use marks::{Charge, Mark, Reason, Refusal, Support, Width};
+use std::test::Fail;
 
 // Of each kind a number before the first, the first, the last, one past the last, and one that is 1 in 32 bits. A row that is wrong names the kind.
 #[test]
@@ -19,7 +20,15 @@ fn ranges_of_the_kinds(rt: HostRuntime) {
 
 #[test]
 fn numbers_out_of_range_are_refused(rt: HostRuntime) {
-    assert_eq!(rt; Mark::new(0), Err(Refusal::unplaced(Reason::Range)));
+    let range = Refusal::unplaced(Reason::Range);
+    for number in [0, 33, 4_294_967_297] {
+        let answers = (Mark::new(number), Width::new(number));
+        assert_eq!(rt; answers, (Err(range), Err(range)), "{number}");
+    }
+    for number in [0, 65_537, 4_294_967_297, u64::MAX] {
+        let answers = (Charge::new(number), Support::new(number));
+        assert_eq!(rt; answers, (Err(range), Err(range)), "{number}");
+    }
 }
 
 // The number of the charge after this one, if it is among so many.
@@ -61,4 +70,34 @@ fn charges_in_turn(rt: HostRuntime) {
         let found = Charge::up_to(count).nth(place);
         assert_eq!(rt; found.map(Charge::get), charge);
     }
+}
+
+#[test]
+fn marks_in_turn(rt: HostRuntime) {
+    for (width, place, mark) in [
+        (1, 0, Some(1)),
+        (1, 1, None),
+        (32, 0, Some(1)),
+        (32, 31, Some(32)),
+        (32, 32, None),
+    ] {
+        let found = Mark::up_to(Width::new(width).unwrap()).nth(place);
+        assert_eq!(rt; found.map(Mark::get), mark);
+    }
+}
+
+#[test]
+fn numbers_are_shown_by_their_kind(rt: HostRuntime) -> Result<(), Fail> {
+    let shown = [
+        format!(in rt.alloc(); "{:?}", Mark::new(7)?)?,
+        format!(in rt.alloc(); "{:?}", Width::new(7)?)?,
+        format!(in rt.alloc(); "{:?}", Charge::new(7)?)?,
+        format!(in rt.alloc(); "{:?}", Support::new(7)?)?,
+    ];
+    let kinds = ["Mark", "Width", "Charge", "Support"];
+    for (text, kind) in shown.iter().zip(kinds) {
+        let whole = format!(in rt.alloc(); "{kind} {{ number: 7 }}")?;
+        assert_eq!(rt; text.as_str(), whole.as_str());
+    }
+    Ok(())
 }

@@ -1,5 +1,6 @@
 // Packed tables at their edges.
 use marks::{Charge, MarkSet, Reason, Refusal, Width};
+use std::alloc::{AllocError, Global};
 use std::test::Fail;
 use tables::{Holding, Packed, Table};
 
@@ -18,9 +19,22 @@ fn stray(charge: u64) -> Option<Refusal> {
 
 #[test]
 fn whole_rows_only(rt: HostRuntime) {
-    let refusals = [refusal(&[]), refusal(&[0; 3]), refusal(&[32, 0, 0, 0, 0])];
+    let refusals = [
+        refusal(&[]),
+        refusal(&[0; 3]),
+        refusal(&[32, 0, 0, 0, 0]),
+        refusal(&[33, 0, 0, 0, 0]),
+    ];
     let ragged = unplaced(Reason::Ragged);
-    assert_eq!(rt; refusals, [None, ragged, ragged]);
+    assert_eq!(rt; refusals, [None, ragged, ragged, ragged]);
+}
+
+// Rows of mark 1: so many before one that has mark 6 besides, and so many after it.
+fn rows(heap: Global, before: usize, after: usize) -> Result<Vec<u8>, AllocError> {
+    let mut bytes = [1, 0, 0, 0].repeat(heap, before)?;
+    bytes.extend_from_slice(&[33, 0, 0, 0])?;
+    bytes.extend_from_slice([1, 0, 0, 0].repeat(heap, after)?.as_slice())?;
+    Ok(bytes)
 }
 
 // At most 65,536 charges; whole rows count before that, and both before marks.
@@ -32,6 +46,12 @@ fn at_most_65536_charges(rt: HostRuntime) -> Result<(), Fail> {
         refusal(vec![in rt.alloc(); 32; 262_149]?.as_slice()),
     ];
     let due = [None, unplaced(Reason::TooMany), unplaced(Reason::Ragged)];
+    assert_eq!(rt; refusals, due);
+    let most = [1, 0, 0, 0].repeat(rt.alloc(), 65_536)?;
+    let mut more = rows(rt.alloc(), 0, 65_536)?;
+    let whole = refusal(more.as_slice());
+    more.push(0)?;
+    let refusals = [refusal(most.as_slice()), whole, refusal(more.as_slice())];
     assert_eq!(rt; refusals, due);
     Ok(())
 }
@@ -52,6 +72,15 @@ fn a_stray_mark_in_the_last_row(rt: HostRuntime) -> Result<(), Fail> {
     let mut bytes = vec![in rt.alloc(); 0; 262_140]?;
     bytes.extend_from_slice(&[33, 0, 0, 0])?;
     assert_eq!(rt; refusal(bytes.as_slice()), stray(65_536));
+    Ok(())
+}
+
+#[test]
+fn a_stray_mark_among_rows_of_mark_1(rt: HostRuntime) -> Result<(), Fail> {
+    for (before, after, charge) in [(0, 4, 1), (2, 2, 3), (4, 0, 5), (65_535, 0, 65_536)] {
+        let bytes = rows(rt.alloc(), before, after)?;
+        assert_eq!(rt; refusal(bytes.as_slice()), stray(charge), "{charge}");
+    }
     Ok(())
 }
 

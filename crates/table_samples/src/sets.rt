@@ -21,6 +21,7 @@ fn marks_up_to_a_width_and_below_a_mark(rt: HostRuntime) {
 
 #[test]
 fn lowest_and_highest(rt: HostRuntime) {
+    assert_eq!(rt; MarkSet::empty(), MarkSet::from_bits(0));
     for (bits, lowest, highest) in [
         (0, None, None),
         (1, Some(1), Some(1)),
@@ -47,7 +48,7 @@ fn marks_put_in_and_taken_out(rt: HostRuntime) {
 }
 
 #[test]
-fn sets_of_marks(rt: HostRuntime) {
+fn sets_of_marks(rt: HostRuntime) -> Result<(), Fail> {
     let (a, b) = (MarkSet::from_bits(0b0110), MarkSet::from_bits(0b1010));
     let made = [
         a.union(b).bits(),
@@ -58,6 +59,9 @@ fn sets_of_marks(rt: HostRuntime) {
     assert_eq!(rt; made, [0b1110, 0b0010, 0b0100, 0b1100]);
     let parts = (a.is_part_of(b), a.intersection(b).is_part_of(a));
     assert_eq!(rt; parts, (false, true));
+    let held = (a.holds(Mark::new(1)?), a.holds(Mark::new(2)?));
+    assert_eq!(rt; held, (false, true));
+    Ok(())
 }
 
 #[test]

@@ -3,7 +3,7 @@ use Rattle.std.proofs.Common.{◌≡◌, ℕ, zero, suc, ◌-◌, ◌<◌, ◌�
 use Rattle.std.specs.List.{range_with_len}
 use Rattle.std.proofs.lemmas.List.{get_or-take, length-take}
 use Rattle.std.proofs.lemmas.Bool.{cases_lt, eq-eqb, ne_eqb, lt-ltb, le-ltb, both_ways, not-false, and_parts, leb-true, eqb-false}
-use Rattle.marks.specs.declared.refusal.Reason.TheVariants.{BadChoice}
+use Rattle.marks.specs.declared.refusal.Reason.TheVariants.{Range, BadChoice}
 use Rattle.marks.specs.Numbers.{most_marks, InRange, in_range}
 use Rattle.marks.specs.Places.{first_place}
 use Rattle.marks.specs.Refusals.{placed_at}
@@ -13,6 +13,10 @@ use Rattle.tables.specs.Layers.{outside, repeats, choice_refusal}
 -- ---- what is refused
 
 module _ (numbers : List ℕ) where
+  pub refused_range : (place : ℕ) → first_place outside numbers ≡ Some place → choice_refusal numbers ≡ Some (placed_at Range place)
+  unfolding choice_refusal
+  refused_range place e = rw e
+
   module _ (marks : first_place outside numbers ≡ None) where
     pub refused_empty : length numbers ≡ 0 → choice_refusal numbers ≡ Some (placed_at BadChoice 1)
     unfolding choice_refusal

@@ -1,12 +1,12 @@
 -- What each layer does, charge by charge and mark by mark.
-use Rattle.std.proofs.Common.{◌≡◌, ℕ, ◌+◌, ◌-◌, ◌<◌, false, List, length, get_or, sym, ap, ◌∙◌, inl, inr, arith}
+use Rattle.std.proofs.Common.{◌≡◌, ℕ, ◌+◌, ◌-◌, ◌<◌, ◌≤◌, false, List, length, get_or, sym, ap, ◌∙◌, inl, inr, arith}
 use Rattle.std.proofs.lemmas.List.{get_or_past}
 use Rattle.std.proofs.lemmas.Bool.{cases_lt, lt-ltb}
-use Rattle.marks.specs.Numbers.{InRange, bit_of}
+use Rattle.marks.specs.Numbers.{most_charges, InRange, bit_of}
 use Rattle.marks.specs.Sets.{has, both, differing, all_below, differ}
 use Rattle.marks.specs.Members.{has_and, has_xor, has_all_below}
 use Rattle.marks.proofs.Picks.{has_picked}
-use Rattle.tables.specs.Meaning.{Meaning, count_of, row_of}
+use Rattle.tables.specs.Meaning.{Meaning, Proper, count_of, row_of}
 use Rattle.tables.specs.Layers.{reversed, windowed, selected}
 use Rattle.tables.specs.Laid.{reversed_width, reversed_count, reversed_at, windowed_width, windowed_count, windowed_at}
 use Rattle.tables.specs.Choosing.{selected_width, selected_count, selected_row}
@@ -32,6 +32,14 @@ module _ (flipped : ℕ) (m : Meaning) where
         | inr h ↦ ap (λ row. has row (bit_of mark)) (get_or_past (reversed flipped m).rows (charge - 1) 0 (omega (arith, reversed_count flipped m)) ∙ sym (get_or_past m.rows (charge - 1) 0 h))
       ]
 
+  -- the row of a charge, and past the count
+  pub reversed_row : (charge : ℕ) → 1 ≤ charge → charge ≤ count_of m
+      → row_of (reversed flipped m) charge ≡ differing (row_of m charge) (both flipped (all_below m.width))
+  reversed_row charge p h = reversed_at flipped m (charge - 1) (omega arith)
+
+  pub reversed_past : (charge : ℕ) → count_of m < charge → row_of (reversed flipped m) charge ≡ 0
+  reversed_past charge h = get_or_past (reversed flipped m).rows (charge - 1) 0 (omega (arith, reversed_count flipped m))
+
   pub reverses : ReversesMarks flipped m (reversed flipped m)
   reverses = record {
     width = reversed_width flipped m;
@@ -41,6 +49,19 @@ module _ (flipped : ℕ) (m : Meaning) where
   }
 
 -- ---- a window
+
+module _ (first count : ℕ) (m : Meaning) where
+  -- the row of a charge, past the count, and past the last charge that there can be
+  pub windowed_row : (charge : ℕ) → 1 ≤ charge → charge ≤ count → row_of (windowed first count m) charge ≡ row_of m (first - 1 + charge)
+  windowed_row charge p h =
+      let e : first - 1 + (charge - 1) ≡ first - 1 + charge - 1 = omega arith in
+      windowed_at first count m (charge - 1) (omega arith) ∙ ap (λ k. get_or m.rows k 0) e
+
+  pub windowed_past : (charge : ℕ) → count < charge → row_of (windowed first count m) charge ≡ 0
+  windowed_past charge h = get_or_past (windowed first count m).rows (charge - 1) 0 (omega (arith, windowed_count first count m))
+
+  pub windowed_beyond : (charge : ℕ) → Proper m → most_charges < first - 1 + charge → row_of (windowed first count m) charge ≡ 0
+  windowed_beyond charge p h = get_or_past (windowed first count m).rows (charge - 1) 0 (omega (arith, windowed_count first count m, p.few))
 
 pub shows_charges : (first most : ℕ) (m : Meaning) → ShowsCharges first most m (windowed first most m)
 shows_charges first most m = record {

@@ -1,12 +1,12 @@
 -- What is trimmed is proper, and what is proper is not trimmed.
-use Rattle.std.specs.Prelude.{◌≡◌, ℕ, ◌-◌, ◌%◌, ◌^◌, ◌<◌, ◌≤◌, min, List, length, take, slice_index, refl}
-use Rattle.std.proofs.Common.{sym, ap, ◌∙◌, inl, inr, arith}
+use Rattle.std.specs.Prelude.{◌≡◌, ℕ, ◌-◌, ◌%◌, ◌^◌, ◌<◌, ◌≤◌, min, List, map, length, take, slice_index, refl}
+use Rattle.std.proofs.Common.{sym, ap, ◌∙◌, inl, inr, mod-eq_of_lt, arith}
 use Rattle.std.proofs.lemmas.Nat.{pow_pos, mod_below, and_mask}
-use Rattle.std.proofs.lemmas.List.{get_or_past, get_or-take, get_or-map, length-take, length-map}
+use Rattle.std.proofs.lemmas.List.{get_or_past, get_or-take, get_or-map, length-take, length-map, take_all, ext_get_or}
 use Rattle.std.proofs.lemmas.Bool.{cases_lt}
 use Rattle.marks.specs.Numbers.{most_charges}
 use Rattle.marks.specs.Sets.{both, all_below}
-use Rattle.tables.specs.Meaning.{Proper, count_of, row_of, nearest_width, trimmed}
+use Rattle.tables.specs.Meaning.{Meaning, Proper, count_of, row_of, nearest_width, trimmed}
 
 abbrev trim : ℕ → ℕ → ℕ
 trim n row = row % 2 ^ nearest_width n
@@ -43,6 +43,18 @@ trimmed_proper n rows = record {
   few = omega (arith, trimmed_count n rows);
   within = λ k. rw (trimmed_width n rows) (trimmed_within n rows k);
 }
+
+-- what is proper is kept as it is
+pub trimmed_same : (n : ℕ) (rows : List ℕ) → Proper (record { width = n; rows = rows }) → trimmed n rows ≡ record { width = n; rows = rows }
+unfolding trimmed
+trimmed_same n rows p =
+    let same : nearest_width n ≡ n = omega (arith, p.wide.0, p.wide.1) in
+    let kept : map (λ row. row % 2 ^ n) rows ≡ rows =
+    ext_get_or 0 (map (λ row. row % 2 ^ n) rows) rows (length-map rows _)
+    (λ i h. get_or-map (λ row. row % 2 ^ n) rows i 0 0 (omega (arith, length-map rows (λ row. row % 2 ^ n))) ∙ mod-eq_of_lt (p.within i)) in
+    let made : ℕ → List ℕ → Meaning = λ v xs. record { width = v; rows = map (λ row. row % 2 ^ v) xs } in
+    ap (λ (v : ℕ). made v (take most_charges rows)) same ∙ ap (made n) (take_all most_charges rows p.few)
+    ∙ ap (λ (xs : List ℕ). record { width = n; rows = xs }) kept
 
 -- as a table answers: the row cut to the width, and none past the count
 pub trimmed_read : (n : ℕ) (rows : List ℕ) (charge : ℕ) → 1 ≤ charge → charge ≤ count_of (trimmed n rows)
